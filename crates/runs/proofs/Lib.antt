@@ -1,0 +1,6 @@
+pub mod Table
+pub mod Tiers
+pub mod Sizes
+pub mod Counts
+pub mod Nths
+pub mod Steps

@@ -1,0 +1,6 @@
+pub mod Lists
+pub mod Refusals
+pub mod Sizes
+pub mod Runs
+pub mod Calls
+pub mod Shift
