@@ -4,3 +4,4 @@ pub mod Sizes
 pub mod Counts
 pub mod Nths
 pub mod Steps
+pub mod Shifts

@@ -17,3 +17,13 @@ pub nth-beyond : {E : Type 0} (xs : List E) (k : ℕ) → length xs ≤ k → nt
 nth-beyond [] k h = refl
 nth-beyond (y ∷ ys) zero h = absurd (omega arith)
 nth-beyond (y ∷ ys) (suc k) h = nth-beyond ys k (le-of-suc-le-suc h)
+
+pub nth-get : {E : Type 0} (xs : List E) (k : ℕ) (x d : E) → nth xs k ≡ Some x → getD xs k d ≡ x
+nth-get [] k x d e = absurd (let z : _≡_ {A = ℕ} 0 1 = cc in omega arith)
+nth-get (y ∷ ys) zero x d e = cc
+nth-get (y ∷ ys) (suc k) x d e = nth-get ys k x d e
+
+pub nth-some : {E : Type 0} (xs : List E) (k : ℕ) → k < length xs → nth xs k ≡ None → ⊥
+nth-some [] k h e = omega arith
+nth-some (y ∷ ys) zero h e = let z : _≡_ {A = ℕ} 0 1 = cc in omega arith
+nth-some (y ∷ ys) (suc k) h e = nth-some ys k (le-of-suc-le-suc h) e

@@ -1,0 +1,14 @@
+pub mod Weights
+pub mod Taking
+pub mod Asking
+pub mod Moving
+pub mod Lawful
+pub mod Placed
+pub mod Sums
+pub mod Chains
+pub mod Gaps
+pub mod Changes
+pub mod Cells
+pub mod Questions
+pub mod Starts
+pub mod Moves

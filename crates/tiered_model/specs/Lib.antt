@@ -1,0 +1,5 @@
+pub mod Tiered
+pub mod Groups
+pub mod Laws
+pub mod Ledger
+pub mod Resizes
