@@ -15,7 +15,7 @@ impl CellIndex {
     pub fn is_empty(self) -> bool
         ensures { λ r. ⌜ r ≡ eqb (self .number) empty ⌝ }
     {
-        self.number == u32::MAX
+        self.number == CellIndex::EMPTY.number
     }
 }
 
@@ -31,6 +31,6 @@ impl NodeIndex {
     pub fn is_empty(self) -> bool
         ensures { λ r. ⌜ r ≡ eqb (self .number) empty ⌝ }
     {
-        self.number == u32::MAX
+        self.number == NodeIndex::EMPTY.number
     }
 }

@@ -42,12 +42,6 @@ pub struct Tiered<'a, E> {
 }
 
 impl<'a, E: Entry> Tiered<'a, E> {
-    pub fn claimed(&self) -> u32
-        ensures { λ r. ⌜ r ≡ State-of (now (self .entry)) .claimed ⌝ }
-    {
-        self.claimed
-    }
-
     // A store with no run over cells and a ledger of one word a cell; with no cells where the two differ in length or are too long.
     pub fn new(cells: &'a mut [E], ledger: &'a mut [u64]) -> Tiered<'a, E>
         ensures sound { λ r. ⌜ Sound-of (E·Entry .longest) r ⌝ }

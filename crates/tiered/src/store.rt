@@ -1,6 +1,7 @@
 // The tiered store as a run store: each call asks, and then does.
+ghost use mathlib.Core.Path.{_≡_};
 ghost use Rattle.tiered_model.specs.Tiered.{State, tiered};
-ghost use Rattle.tiered_model.specs.Groups.{Valid};
+ghost use Rattle.tiered_model.specs.Groups.{Valid, groups, cells-of};
 ghost use Rattle.tiered_model.proofs.Lawful.{lawful};
 ghost use Rattle.tiered.specs.Meaning.{State-of, Sound-of, Memory, memory-of};
 use super::Tiered;
@@ -8,6 +9,17 @@ use bitmap::Slot;
 use runs::entry::Entry;
 use runs::fault::StoreFault;
 use runs::store::RunStore;
+
+impl<'a, E: Entry> Tiered<'a, E> {
+    // The claimed cells: they are the cells of all groups, of live runs and freed.
+    pub fn claimed(&self) -> u32
+        requires { ⌜ Sound-of (E·Entry .longest) (now self) ⌝ }
+        ensures state { λ r. ⌜ r ≡ State-of (now (self .entry)) .claimed ⌝ }
+        ensures sum { λ r. ⌜ r ≡ cells-of (E·Entry .longest) (groups (E·Entry .longest) (State-of (now (self .entry)))) ⌝ }
+    {
+        self.claimed
+    }
+}
 
 pub impl<'a, E: Entry> RunStore for Tiered<'a, E> as TieredStore {
     type Item = E;
