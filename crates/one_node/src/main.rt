@@ -2,15 +2,13 @@
 //
 // Mappings arrive at bits in mixed order until all 31 stand, some are exchanged, and all are taken away again: the run goes through
 // every size up and back. Then two stores that are too small refuse, and the lines show that nothing has changed.
-mod node;
-
 ghost use Rattle.tiered.specs.Meaning.{Sound-of};
 use bitmap::Bit;
 use bitmap::compute_slot;
 use bitmap::is_set;
-use node::Node;
-use node::clear_mapping;
-use node::set_mapping;
+use mappings::Node;
+use mappings::clear_mapping;
+use mappings::set_mapping;
 use runs::entry::StreamEntry;
 use runs::entry::StreamRecord;
 use runs::fault::StoreFault;

@@ -1,22 +1,25 @@
-// The mappings of one node, in a run store of any kind.
+// What a node keeps in run stores of any kind: the records of its mappings, and the rows of its children.
+// The entry of a bit stands at the bit's rank.
 ghost use mathlib.Core.Path.{_≡_};
-ghost use Rattle.std.specs.Results.{Cases};
 ghost use Rattle.std.specs.declared.option.Option.the-variants.{Some};
 ghost use Rattle.bitmap.specs.Ranks.{rank, with-bit, without-bit};
 ghost use Rattle.runs.specs.Lists.{nth};
 ghost use Rattle.runs.specs.Refusals.{told};
-ghost use Rattle.runs.specs.Runs.{no-remove};
-ghost use Rattle.runs.specs.Calls.{Says, Tells, Called};
-ghost use Rattle.one_node.specs.Mappings.{no-set, set-state, set-index};
+ghost use Rattle.runs.specs.Runs.{no-entry, no-remove};
+ghost use Rattle.runs.specs.Calls.{Tells, Asked, Called};
+ghost use Rattle.mappings.specs.Mappings.{no-set, set-state, set-index};
 use bitmap::Bit;
 use bitmap::compute_slot;
 use bitmap::is_set;
 use bitmap::with_bit;
 use bitmap::without_bit;
+use runs::entry::NodeEntry;
+use runs::entry::NodeRow;
 use runs::entry::StreamEntry;
 use runs::entry::StreamRecord;
 use runs::fault::StoreFault;
 use runs::index::CellIndex;
+use runs::index::NodeIndex;
 use runs::store::RunStore;
 
 // The bits that have a mapping, and the run of their records, lowest bit first.
@@ -92,4 +95,21 @@ pub fn clear_mapping<S: RunStore<Item = StreamRecord>>(
         )),
         Err(f) => Err(f),
     }
+}
+
+// The row of the child at a bit, from a store of node rows.
+pub fn child_row<S: RunStore<Item = NodeRow>>(
+    store: &mut S,
+    parent: NodeRow,
+    bit: Bit,
+) -> Result<NodeRow, StoreFault>
+    requires { ⌜ S·RunStore .sound (now store) ⌝ }
+    ensures asked { λ _. ⌜ Asked (S·RunStore .sound) (S·RunStore .state) (S·RunStore .memory) (now (store .entry)) (now (store .exit)) ⌝ }
+    ensures answer { λ r. ⌜ Tells told r (no-entry (S·RunStore .model) (S·RunStore .state (now (store .entry))) (parent .«children_index») (rank (parent .«child_bitmap») (bit .number)))
+        (λ row. nth (S·RunStore .model .live (S·RunStore .state (now (store .entry))) (parent .«children_index»)) (rank (parent .«child_bitmap») (bit .number)) ≡ Some row) ⌝ }
+{
+    let at = NodeIndex {
+        number: parent.children_index,
+    };
+    store.entry(at, compute_slot(parent.child_bitmap, bit))
 }

@@ -2,9 +2,9 @@
 use mathlib.Core.Bool.{cond}
 use Prim.Native.Nat.{ℕ}
 use lib.Dec.{eqb}
-use Rattle.bitmap.specs.Ranks.{isSet, rank, with-bit, without-bit}
+use Rattle.bitmap.specs.Ranks.{isSet, rank}
 use Rattle.runs.specs.Refusals.{Grant}
-use Rattle.runs.specs.Runs.{Model, grows, no-entry, no-insert, no-remove}
+use Rattle.runs.specs.Runs.{Model, grows, no-entry, no-insert}
 
 module _ {E S : Type 0} (m : Model E S) (s : S) (bitmap i b : ℕ) where
   -- a record for bit b goes in place of the one that is there, opens the run, or goes before the bit's rank
