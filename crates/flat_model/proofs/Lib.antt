@@ -2,3 +2,8 @@ pub mod Asking
 pub mod Taking
 pub mod Lawful
 pub mod Placed
+pub mod Chains
+pub mod Windows
+pub mod Words
+pub mod Cells
+pub mod Starts
