@@ -38,6 +38,13 @@ module _ {E : Type 0} (longest : ℕ) (la : 31 ≤ longest) (s : State E) where
   pub grows-first : grows (flat longest) s 0 ≡ opening longest s
   grows-first = grows-listed 0 (omega arith)
 
+  -- a run can be opened exactly where a group can be had
+  pub grows-open : (n : ℕ) → n ≡ 0 → has longest s ≡ true → grows (flat longest) s n ≡ None
+  grows-open n e t = ap (grows (flat longest) s) e ∙ grows-first ∙ cond-true (has longest s) _ _ t
+
+  pub grows-shut : (n : ℕ) → n ≡ 0 → has longest s ≡ false → grows (flat longest) s n ≡ Some (refusal 23 (0 ∷ []))
+  grows-shut n e t = ap (grows (flat longest) s) e ∙ grows-first ∙ cond-false (has longest s) _ _ t
+
   later : (n : ℕ) → 0 < n → n < longest → getD (flat longest .grow s) n None ≡ None
   later zero l h = absurd (omega arith)
   later (suc n) l h = getD-replicate (longest - 1) n None None (omega arith)

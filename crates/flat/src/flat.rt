@@ -1,0 +1,140 @@
+// A run store in which every run has a group of as many cells as the longest run has entries.
+// A run stays at its index until it ends, and the group freed last is used first.
+ghost use mathlib.Core.Path.{_≡_};
+ghost use mathlib.Core.Bool.{true};
+ghost use mathlib.Core.List.{List, [], _∷_};
+ghost use Prim.Native.Nat.{ℕ, _+_, _<_, _≤_};
+ghost use lib.ListN.{length, getD, set, take, drop};
+ghost use Rattle.std.specs.declared.option.Option.the-variants.{Some, None};
+ghost use Rattle.runs.specs.Lists.{indexes, nth, with-new, without};
+ghost use Rattle.runs.specs.Refusals.{told};
+ghost use Rattle.runs.specs.Runs.{grows, shrinks, no-entry, no-insert, no-remove};
+ghost use Rattle.runs.specs.Calls.{Says, Tells, taken};
+ghost use Rattle.flat_model.specs.Flat.{State, Valid, fresh, flat, has, group, held, kept, released};
+ghost use Rattle.flat_model.proofs.Lawful.{lawful};
+ghost use Rattle.flat.specs.Meaning.{State-of, Sound-of, Memory, Memory-of};
+use bitmap::Slot;
+use runs::entry::Entry;
+use runs::fault::StoreFault;
+use runs::lent::lent;
+use runs::shift::entry_in;
+use runs::shift::shift_left;
+use runs::shift::shift_right;
+use runs::store::RunStore;
+
+// The index that names no run.
+const EMPTY: u32 = u32::MAX;
+
+#[derive(Drop)]
+pub struct Flat<'a, E> {
+    cells: &'a mut [E],
+    // a word a cell: the length of the run that begins there, and 64 times the link to the group freed before this one
+    ledger: &'a mut [u64],
+    // how many cells have ever been in a group
+    claimed: u32,
+    // the group freed last, its index and 1; 0 for none
+    head: u32,
+    // how many runs are live
+    runs: u32,
+}
+
+impl<'a, E: Entry> Flat<'a, E> {
+    // A store with no run over cells and a ledger of one word a cell, which is cleared.
+    // Where `lent` refuses them, the store has no cells.
+    pub fn new(cells: &'a mut [E], ledger: &'a mut [u64]) -> Flat<'a, E>
+        ensures sound { λ r. ⌜ Sound-of (E·Entry .longest) r ⌝ }
+        ensures after { λ r. ⌜ State-of r ≡ fresh (taken (length (now (cells .entry))) (length (now (ledger .entry)))) ⌝ }
+    {
+        match lent(cells, ledger) {
+            Ok(_) => Flat::over(cells, ledger),
+            Err(_) => Flat::over(&mut cells[0..0], &mut ledger[0..0]),
+        }
+    }
+
+    // How many cells have ever been in a group.
+    pub fn claimed(&self) -> u32
+        ensures { λ r. ⌜ r ≡ State-of (now (self .entry)) .claimed ⌝ }
+    {
+        self.claimed
+    }
+
+    fn over(cells: &'a mut [E], ledger: &'a mut [u64]) -> Flat<'a, E>
+        requires same { ⌜ length (now ledger) ≡ length (now cells) ⌝ }
+        requires low { ⌜ length (now cells) ≤ indexes ⌝ }
+        ensures sound { λ r. ⌜ Sound-of (E·Entry .longest) r ⌝ }
+        ensures after { λ r. ⌜ State-of r ≡ fresh (length (now (cells .entry))) ⌝ }
+    {
+        clear(ledger);
+        Flat {
+            cells,
+            ledger,
+            claimed: 0,
+            head: 0,
+            runs: 0,
+        }
+    }
+
+    // How many entries the run at an index has; 0 where none is live.
+    fn run_length(&self, at: u32) -> u32
+        requires { ⌜ Sound-of (E·Entry .longest) (now self) ⌝ }
+        ensures { λ r. ⌜ r ≡ length (State-of (now (self .entry)) .live at) ⌝ }
+    {
+        if (at as usize) < self.ledger.len() {
+            (self.ledger[at as usize] % 64) as u32
+        } else {
+            0
+        }
+    }
+
+    // Whether a group can be had.
+    fn has_group(&self) -> bool
+        requires { ⌜ Sound-of (E·Entry .longest) (now self) ⌝ }
+        ensures { λ r. ⌜ r ≡ has (E·Entry .longest) (State-of (now (self .entry))) ⌝ }
+    {
+        if self.head > 0 {
+            true
+        } else {
+            (self.claimed + E::longest_run()) as usize <= self.cells.len()
+        }
+    }
+
+    // Whether a run of n entries can have one more; only the first needs a group.
+    fn may_grow(&self, n: u32) -> Result<(), StoreFault>
+        requires { ⌜ Sound-of (E·Entry .longest) (now self) ⌝ }
+        ensures { λ r. ⌜ Says told r (grows (flat (E·Entry .longest)) (State-of (now (self .entry))) n) ⌝ }
+    {
+        if n >= E::longest_run() {
+            return Err(StoreFault::AtLongest);
+        }
+        if n > 0 {
+            return Ok(());
+        }
+        if self.has_group() {
+            Ok(())
+        } else {
+            Err(StoreFault::NoGroup(0))
+        }
+    }
+
+    // Whether a run of n entries can have one less.
+    fn may_shrink(&self, n: u32) -> Result<(), StoreFault>
+        requires { ⌜ Sound-of (E·Entry .longest) (now self) ⌝ }
+        ensures { λ r. ⌜ Says told r (shrinks (flat (E·Entry .longest)) (State-of (now (self .entry))) n) ⌝ }
+    {
+        let longest = E::longest_run();
+        if n == 0 || n > longest {
+            Err(StoreFault::BadSlot)
+        } else {
+            Ok(())
+        }
+    }
+}
+
+// Writes 0 into each word.
+fn clear(ledger: &mut [u64])
+    ensures { λ _. ⌜ ((k : ℕ) → k < length (now (ledger .exit)) → getD (now (ledger .exit)) k 0 ≡ 0) ⌝ }
+{
+    for w in ledger.iter_mut() {
+        *w = 0;
+    }
+}
