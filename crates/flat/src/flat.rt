@@ -128,6 +128,102 @@ impl<'a, E: Entry> Flat<'a, E> {
             Ok(())
         }
     }
+
+    // Whether the run at an index has the slot.
+    fn may_read(&self, at: u32, slot: u32) -> Result<(), StoreFault>
+        requires { ⌜ Sound-of (E·Entry .longest) (now self) ⌝ }
+        ensures { λ r. ⌜ Says told r (no-entry (flat (E·Entry .longest)) (State-of (now (self .entry))) at slot) ⌝ }
+    {
+        let n = self.run_length(at);
+        if n == 0 {
+            return Err(StoreFault::NotLive);
+        }
+        if slot >= n {
+            return Err(StoreFault::BadSlot);
+        }
+        Ok(())
+    }
+
+    // The length of the run at an index that may get an entry before the slot.
+    fn may_insert(&self, at: u32, slot: u32) -> Result<u32, StoreFault>
+        requires { ⌜ Sound-of (E·Entry .longest) (now self) ⌝ }
+        ensures { λ r. ⌜ Tells told r (no-insert (flat (E·Entry .longest)) (State-of (now (self .entry))) at slot)
+            (λ n. n ≡ length (State-of (now (self .entry)) .live at)) ⌝ }
+    {
+        let n = self.run_length(at);
+        if n == 0 {
+            return Err(StoreFault::NotLive);
+        }
+        if slot > n {
+            return Err(StoreFault::BadSlot);
+        }
+        match self.may_grow(n) {
+            Ok(_) => Ok(n),
+            Err(f) => Err(f),
+        }
+    }
+
+    // The length of the run at an index that may lose the entry at the slot.
+    fn may_remove(&self, at: u32, slot: u32) -> Result<u32, StoreFault>
+        requires { ⌜ Sound-of (E·Entry .longest) (now self) ⌝ }
+        ensures { λ r. ⌜ Tells told r (no-remove (flat (E·Entry .longest)) (State-of (now (self .entry))) at slot)
+            (λ n. n ≡ length (State-of (now (self .entry)) .live at)) ⌝ }
+    {
+        let n = self.run_length(at);
+        if n == 0 {
+            return Err(StoreFault::NotLive);
+        }
+        if slot >= n {
+            return Err(StoreFault::BadSlot);
+        }
+        match self.may_shrink(n) {
+            Ok(_) => Ok(n),
+            Err(f) => Err(f),
+        }
+    }
+
+    // The next unclaimed group becomes a run of one entry, whatever its cell holds.
+    fn claim_next(&mut self) -> u32
+        requires sound { ⌜ Sound-of (E·Entry .longest) (now self) ⌝ }
+        requires none { ⌜ now self .head ≡ 0 ⌝ }
+        requires has { ⌜ has (E·Entry .longest) (State-of (now self)) ≡ true ⌝ }
+        ensures sound { λ _. ⌜ Sound-of (E·Entry .longest) (now (self .exit)) ⌝ }
+        ensures group { λ r. ⌜ r ≡ group (State-of (now (self .entry))) ⌝ }
+        ensures after { λ r. ⌜ State-of (now (self .exit)) ≡ held (E·Entry .longest) (State-of (now (self .entry))) (take 1 (drop r (now (now (self .entry) .cells)))) ⌝ }
+    {
+        let at = self.claimed;
+        self.ledger[at as usize] = 1;
+        self.claimed += E::longest_run();
+        self.runs += 1;
+        at
+    }
+
+    // The group freed last becomes a run of one entry, whatever its cell holds.
+    fn use_again(&mut self) -> u32
+        requires sound { ⌜ Sound-of (E·Entry .longest) (now self) ⌝ }
+        requires some { ⌜ 0 < now self .head ⌝ }
+        ensures sound { λ _. ⌜ Sound-of (E·Entry .longest) (now (self .exit)) ⌝ }
+        ensures group { λ r. ⌜ r ≡ group (State-of (now (self .entry))) ⌝ }
+        ensures after { λ r. ⌜ State-of (now (self .exit)) ≡ held (E·Entry .longest) (State-of (now (self .entry))) (take 1 (drop r (now (now (self .entry) .cells)))) ⌝ }
+    {
+        let at = self.head - 1;
+        self.head = (self.ledger[at as usize] / 64) as u32;
+        self.ledger[at as usize] = 1;
+        self.runs += 1;
+        at
+    }
+
+    // The run at an index ends, and its group is the one freed last.
+    fn release(&mut self, at: u32)
+        requires sound { ⌜ Sound-of (E·Entry .longest) (now self) ⌝ }
+        requires live { ⌜ 1 ≤ length (State-of (now self) .live at) ⌝ }
+        ensures sound { λ _. ⌜ Sound-of (E·Entry .longest) (now (self .exit)) ⌝ }
+        ensures after { λ _. ⌜ State-of (now (self .exit)) ≡ released (State-of (now (self .entry))) at ⌝ }
+    {
+        self.ledger[at as usize] = 64 * self.head as u64;
+        self.head = at + 1;
+        self.runs -= 1;
+    }
 }
 
 // Writes 0 into each word.

@@ -95,19 +95,20 @@ module _ {E : Type 0} (longest : ℕ) (la : 31 ≤ longest) (lb : longest ≤ 32
     none-freed : h ≡ 0 → freed-from L h ≡ []
     none-freed e = none-linked L (freed-from L h) (subst (λ (m : ℕ). Linked L m (freed-from L h)) e (s .ends))
 
-    pub claims : h ≡ 0 → has longest (stateOf C L c h) ≡ true → c + longest ≤ length C
+    claims : h ≡ 0 → has longest (stateOf C L c h) ≡ true → c + longest ≤ length C
     claims e t = leb-true (c + longest) (length C) (ap (λ (fs : List ℕ). some-free fs || leb (c + longest) (length C)) (sym (none-freed e)) ∙ t)
 
-    -- the next unclaimed group
-    pub claimed-next : h ≡ 0 → c + longest ≤ length C → (c ≡ group (stateOf C L c h))
-        × (stateOf C (set L c 1) (c + longest) h ≡ held longest (stateOf C L c h) (take 1 (drop c C)))
-        × Sound longest C (set L c 1) (c + longest) h (r + 1)
-    claimed-next e room =
+    -- the next unclaimed group, whose size the code has as m
+    pub claimed-next : (m : ℕ) → m ≡ longest → h ≡ 0 → has longest (stateOf C L c h) ≡ true → (c ≡ group (stateOf C L c h))
+        × (stateOf C (set L c 1) (c + m) h ≡ held longest (stateOf C L c h) (take 1 (drop c C)))
+        × Sound longest C (set L c 1) (c + m) h (r + 1)
+    claimed-next m em e t =
+        let room : c + longest ≤ length C = claims e t in
         let n : freed-from L h ≡ [] = none-freed e in
         let fit : length (take 1 (drop c C)) ≡ 1 = window-length C c 1 (omega arith) in
-        let a = write c 1 (c + longest) h (r + 1) (held-from longest (stateOf C L c h) [] (take 1 (drop c C)))
+        let a = write c 1 (c + m) h (r + 1) (held-from longest (stateOf C L c h) [] (take 1 (drop c C)))
         (held-valid longest la lb (stateOf C L c h) (s .valid) (take 1 (drop c C)) (omega arith) [] n (le-leb (c + longest) (length C) room))
-        (omega (arith, s .same)) refl refl refl fit e
+        (omega (arith, s .same)) refl (omega arith) refl fit e
         (omega (arith, ap one-run (low longest la lb (stateOf C L c h) (s .valid) c (omega arith)), one-of (take 1 (drop c C)) (omega arith))) in
         (ap (λ (l : List ℕ). next l c) (sym n), a .0 ∙ ap (λ (l : List ℕ). held-from longest (stateOf C L c h) l (take 1 (drop c C))) (sym n), a .1)
 
