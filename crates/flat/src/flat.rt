@@ -224,6 +224,100 @@ impl<'a, E: Entry> Flat<'a, E> {
         self.head = at + 1;
         self.runs -= 1;
     }
+
+    // A group becomes a run of one entry, whatever its cell holds.
+    fn take_group(&mut self) -> u32
+        requires sound { ⌜ Sound-of (E·Entry .longest) (now self) ⌝ }
+        requires has { ⌜ has (E·Entry .longest) (State-of (now self)) ≡ true ⌝ }
+        ensures sound { λ _. ⌜ Sound-of (E·Entry .longest) (now (self .exit)) ⌝ }
+        ensures group { λ r. ⌜ r ≡ group (State-of (now (self .entry))) ⌝ }
+        ensures after { λ r. ⌜ State-of (now (self .exit)) ≡ held (E·Entry .longest) (State-of (now (self .entry))) (take 1 (drop r (now (now (self .entry) .cells)))) ⌝ }
+    {
+        if self.head == 0 {
+            self.claim_next()
+        } else {
+            self.use_again()
+        }
+    }
+
+    // The entry at a slot of a run.
+    fn read(&self, at: u32, slot: u32) -> E
+        requires sound { ⌜ Sound-of (E·Entry .longest) (now self) ⌝ }
+        requires slot { ⌜ slot < length (State-of (now self) .live at) ⌝ }
+        ensures { λ r. ⌜ nth (State-of (now (self .entry)) .live at) slot ≡ Some r ⌝ }
+    {
+        match entry_in(self.cells, (at + slot) as usize) {
+            Some(e) => e,
+            None => unreachable(),
+        }
+    }
+
+    // Writes an entry at a slot of a run.
+    fn replace(&mut self, at: u32, slot: u32, e: E)
+        requires sound { ⌜ Sound-of (E·Entry .longest) (now self) ⌝ }
+        requires slot { ⌜ slot < length (State-of (now self) .live at) ⌝ }
+        ensures sound { λ _. ⌜ Sound-of (E·Entry .longest) (now (self .exit)) ⌝ }
+        ensures after { λ _. ⌜ State-of (now (self .exit)) ≡ kept (State-of (now (self .entry))) at (set (State-of (now (self .entry)) .live at) slot e) ⌝ }
+    {
+        self.cells[(at + slot) as usize] = e;
+    }
+
+    // A new run of one entry.
+    fn open_run(&mut self, e: E) -> u32
+        requires sound { ⌜ Sound-of (E·Entry .longest) (now self) ⌝ }
+        requires may { ⌜ grows (flat (E·Entry .longest)) (State-of (now self)) 0 ≡ None ⌝ }
+        ensures sound { λ _. ⌜ Sound-of (E·Entry .longest) (now (self .exit)) ⌝ }
+        ensures after { λ _. ⌜ State-of (now (self .exit)) ≡ flat (E·Entry .longest) .opened (State-of (now (self .entry))) e ⌝ }
+        ensures place { λ r. ⌜ r ≡ flat (E·Entry .longest) .opened-at (State-of (now (self .entry))) e ⌝ }
+    {
+        let at = self.take_group();
+        self.replace(at, 0, e);
+        at
+    }
+
+    // An entry before a slot of a run of n: the group has room, so the shift is not refused.
+    fn put_in(&mut self, at: u32, n: u32, slot: u32, e: E)
+        requires sound { ⌜ Sound-of (E·Entry .longest) (now self) ⌝ }
+        requires may { ⌜ no-insert (flat (E·Entry .longest)) (State-of (now self)) at slot ≡ None ⌝ }
+        requires long { ⌜ n ≡ length (State-of (now self) .live at) ⌝ }
+        ensures sound { λ _. ⌜ Sound-of (E·Entry .longest) (now (self .exit)) ⌝ }
+        ensures after { λ _. ⌜ State-of (now (self .exit)) ≡ flat (E·Entry .longest) .inserted (State-of (now (self .entry))) at slot e ⌝ }
+    {
+        let _ = shift_right(self.cells, (at + slot) as usize, (at + n) as usize);
+        self.cells[(at + slot) as usize] = e;
+        self.ledger[at as usize] = n as u64 + 1;
+    }
+
+    // The entry at a slot out of a run of n, which keeps some: the slot is in the run, so the shift is not refused.
+    fn close_gap(&mut self, at: u32, n: u32, slot: u32)
+        requires sound { ⌜ Sound-of (E·Entry .longest) (now self) ⌝ }
+        requires may { ⌜ no-remove (flat (E·Entry .longest)) (State-of (now self)) at slot ≡ None ⌝ }
+        requires long { ⌜ n ≡ length (State-of (now self) .live at) ⌝ }
+        requires more { ⌜ 1 < n ⌝ }
+        ensures sound { λ _. ⌜ Sound-of (E·Entry .longest) (now (self .exit)) ⌝ }
+        ensures after { λ _. ⌜ State-of (now (self .exit)) ≡ kept (State-of (now (self .entry))) at (without (State-of (now (self .entry)) .live at) slot) ⌝ }
+    {
+        let _ = shift_left(self.cells, (at + slot) as usize, (at + n) as usize);
+        self.ledger[at as usize] = n as u64 - 1;
+    }
+
+    // The entry at a slot out of a run of n; the last one ends it.
+    fn take_out(&mut self, at: u32, n: u32, slot: u32) -> u32
+        requires sound { ⌜ Sound-of (E·Entry .longest) (now self) ⌝ }
+        requires may { ⌜ no-remove (flat (E·Entry .longest)) (State-of (now self)) at slot ≡ None ⌝ }
+        requires long { ⌜ n ≡ length (State-of (now self) .live at) ⌝ }
+        ensures sound { λ _. ⌜ Sound-of (E·Entry .longest) (now (self .exit)) ⌝ }
+        ensures after { λ _. ⌜ State-of (now (self .exit)) ≡ flat (E·Entry .longest) .removed (State-of (now (self .entry))) at slot ⌝ }
+        ensures place { λ r. ⌜ r ≡ flat (E·Entry .longest) .removed-at (State-of (now (self .entry))) at slot ⌝ }
+    {
+        if n > 1 {
+            self.close_gap(at, n, slot);
+            at
+        } else {
+            self.release(at);
+            EMPTY
+        }
+    }
 }
 
 // Writes 0 into each word.

@@ -14,7 +14,7 @@ use Rattle.runs.specs.Lists.{indexes, at, nth, with-new, without}
 use Rattle.runs.specs.Runs.{one-run, count}
 use Rattle.runs.specs.Shift.{Right, Left}
 use Rattle.runs.proofs.Counts.{put-same, put-other, tally-put}
-use Rattle.flat_model.specs.Flat.{State, kept, Valid}
+use Rattle.flat_model.specs.Flat.{State, others, claiming, group, held, kept, Valid}
 use Rattle.flat_model.specs.Places.{of-run}
 use Rattle.flat_model.specs.Ledger.{lengthW, runAt, stateOf, Sound}
 use Rattle.flat_model.proofs.Taking.{kept-valid}
@@ -22,12 +22,33 @@ use Rattle.flat_model.proofs.Placed.{placed}
 use Rattle.flat_model.proofs.Windows.{window-at, nth-window, set-window, gap-opened, gap-rest, gap-closed}
 use Rattle.flat_model.proofs.Words.{state-is, one-of, in-cells, in-ledger, run-resized}
 
+-- ---- states changed twice at one place
+
 again : {X : Type 0} (b : Bool) (x y a : X) → cond b y (cond b x a) ≡ cond b y a
 again true x y a = refl
 again false x y a = refl
 
 pub kept-kept : {E : Type 0} (s : State E) (i : ℕ) (xs ys : List E) → kept (kept s i xs) i ys ≡ kept s i ys
 kept-kept {E} s i xs ys = ap (λ (f : ℕ → List E). record { cells = s .cells; claimed = s .claimed; free = s .free; live = f }) (fun-ext (λ j. again (eqb j i) xs ys (s .live j)))
+
+held-kept : {E : Type 0} (longest : ℕ) (s : State E) (xs ys : List E) → kept (held longest s xs) (group s) ys ≡ held longest s ys
+held-kept {E} longest s xs ys = ap (λ (f : ℕ → List E). record { cells = s .cells; claimed = claiming longest (s .free) (s .claimed); free = others (s .free); live = f }) (fun-ext (λ j. again (eqb j (group s)) xs ys (s .live j)))
+
+pub held-live : {E : Type 0} (longest : ℕ) (s t : State E) (g : ℕ) (xs : List E) → g ≡ group s → t ≡ held longest s xs → t .live g ≡ xs
+held-live {E} longest s t g xs eg e = ap (λ (u : State E). u .live g) e ∙ ap (at (s .live) (group s) xs) eg ∙ put-same (s .live) (group s) xs
+
+set-one : {E : Type 0} (xs : List E) (e : E) → length xs ≡ 1 → set xs 0 e ≡ e ∷ []
+set-one [] e h = absurd (omega arith)
+set-one (x ∷ []) e h = refl
+set-one (x ∷ y ∷ xs) e h = absurd (omega arith)
+
+-- a run of one entry held, and then its entry written
+pub opened-by : {E : Type 0} (longest : ℕ) (s t u : State E) (g : ℕ) (xs : List E) (e : E) → g ≡ group s → length xs ≡ 1 → t ≡ held longest s xs → u ≡ kept t g (set (t .live g) 0 e) → u ≡ held longest s (e ∷ [])
+opened-by {E} longest s t u g xs e eg lx et eu =
+    eu ∙ ap (λ (ys : List E). kept t g (set ys 0 e)) (held-live longest s t g xs eg et) ∙ ap (λ (ys : List E). kept t g ys) (set-one xs e lx)
+    ∙ ap (λ (v : State E). kept v g (e ∷ [])) et ∙ ap (λ (j : ℕ). kept (held longest s xs) j (e ∷ [])) eg ∙ held-kept longest s xs (e ∷ [])
+
+-- ---- cells of one group written
 
 module _ {E : Type 0} (longest : ℕ) (la : 31 ≤ longest) (lb : longest ≤ 32) (C : List E) (L : List ℕ) (c h r : ℕ) (s : Sound longest C L c h r) (i n : ℕ) (e : length (runAt C L i) ≡ n) (l : 1 ≤ n) where
   run-is : (D : List E) → runAt D L i ≡ take n (drop i D)
@@ -79,12 +100,9 @@ module _ {E : Type 0} (longest : ℕ) (la : 31 ≤ longest) (lb : longest ≤ 32
       let b = run-resized longest la lb D L c h r (a .1) i some m hm hl in
       (b .0 ∙ ap (λ (t : State E). kept t i (take m (drop i D))) (a .0) ∙ kept-kept (stateOf C L c h) i (runAt D L i) (take m (drop i D)) ∙ ap (λ (zs : List E). kept (stateOf C L c h) i zs) w, b .1)
 
-  room : (i + longest ≤ length C) × (n ≤ longest)
+  -- its group lies in the cells, and has room for it
+  pub room : (i + longest ≤ length C) × (n ≤ longest)
   room = (in-cells longest la lb C L c h r s i (omega arith), omega (arith, s .valid .short i))
-
-  -- the cell of a slot
-  pub slot-cells : (i + longest ≤ length C) × (n ≤ longest) × (length C ≤ indexes)
-  slot-cells = (room .0, room .1, s .valid .within)
 
   -- what is read at a slot's cell is the entry
   pub entry-read : (k : ℕ) → k < n → nth C (i + k) ≡ nth (runAt C L i) k

@@ -6,4 +6,5 @@ pub mod Chains
 pub mod Windows
 pub mod Words
 pub mod Cells
+pub mod Steps
 pub mod Starts

@@ -2,7 +2,6 @@
 use mathlib.Core.Path.{_≡_, refl, sym, ap, _∙_}
 use mathlib.Core.List.{List, [], _∷_, _++_}
 use mathlib.Core.Logic.{_⊎_, inl, inr, ⊎-elim}
-use mathlib.Core.Bool.{Bool, true, cond}
 use Prim.Native.Nat.{ℕ, zero, suc, _+_, _-_, _<_, _≤_}
 use native.Mathlib.Omega.{arith}
 use native.Mathlib.Numerals.{add-one}
@@ -10,22 +9,12 @@ use native.Mathlib.Nat.{zero-add, suc-add, le-of-suc-le-suc}
 use lib.ListN.{getD, set, length, take, drop, length-drop, length-set}
 use lib.Seq.{getD-set-same, getD-set-other}
 use Rattle.std.specs.Holes.{inserted, removed}
-use Rattle.std.specs.declared.option.Option.the-variants.{Some, None}
-use Rattle.std.specs.declared.result.Result.{Result}
-use Rattle.std.specs.declared.result.Result.the-variants.{Ok, Err}
+use Rattle.std.specs.declared.option.Option.the-variants.{None}
 use Rattle.std.proofs.shelf.Lists.{same-lists, length-take-le, getD-take, getD-drop}
 use Rattle.std.proofs.shelf.Edits.{length-inserted, getD-inserted-below, getD-inserted-at, getD-inserted-above, length-removed, getD-removed-below, getD-removed-above}
-use Rattle.std.proofs.shelf.Tests.{cases-eq, cases-lt, cases-order, cond-true}
-use Rattle.runs.specs.declared.fault.StoreFault.{StoreFault}
+use Rattle.std.proofs.shelf.Tests.{cases-eq, cases-lt, cases-order}
 use Rattle.runs.specs.Lists.{nth, with-new, without}
-use Rattle.runs.specs.Refusals.{refusal, told}
-use Rattle.runs.specs.Calls.{Says}
-use Rattle.runs.specs.Shift.{Right, Left, Moves, in-slice}
-
--- a shift whose range lies in the slice is made
-pub shifted : {X : Type 0} (r : Result (Unit {0}) StoreFault) (ok : Bool) (xs ys : List X) (P : List X → List X → Type 0) → ok ≡ true → Says told r (in-slice ok) → Moves r xs ys P → P xs ys
-shifted (Ok u) ok xs ys P t a m = m
-shifted (Err f) ok xs ys P t a m = absurd (let e = cond-true ok None (Some (refusal 21 [])) t in let z : _≡_ {A = ℕ} 0 1 = cc in omega arith)
+use Rattle.runs.specs.Shift.{Right, Left}
 
 -- a window of a list: how long it is, and what stands in it
 pub window-length : {X : Type 0} (xs : List X) (at n : ℕ) → at + n ≤ length xs → length (take n (drop at xs)) ≡ n
@@ -47,6 +36,11 @@ nth-drop (suc i) k (x ∷ xs) = nth-drop i k xs ∙ ap (nth (x ∷ xs)) (sym (su
 
 pub nth-window : {X : Type 0} (xs : List X) (i n k : ℕ) → k < n → nth (take n (drop i xs)) k ≡ nth xs (i + k)
 nth-window xs i n k h = nth-take n k (drop i xs) h ∙ nth-drop i k xs
+
+pub nth-there : {X : Type 0} (xs : List X) (k : ℕ) → k < length xs → nth xs k ≡ None → ⊥
+nth-there [] k h e = omega arith
+nth-there (x ∷ xs) zero h e = let z : _≡_ {A = ℕ} 0 1 = cc in omega arith
+nth-there (x ∷ xs) (suc k) h e = nth-there xs k (le-of-suc-le-suc h) e
 
 pub set-window : {E : Type 0} (C : List E) (i k n : ℕ) (e : E) → i + n ≤ length C → k < n → take n (drop i (set C (i + k) e)) ≡ set (take n (drop i C)) k e
 set-window {E} C i k n e h l =
