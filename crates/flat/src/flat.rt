@@ -328,3 +328,92 @@ fn clear(ledger: &mut [u64])
         *w = 0;
     }
 }
+
+pub impl<'a, E: Entry> RunStore for Flat<'a, E> as FlatStore {
+    type Item = E;
+
+    ghost State = { State E };
+
+    ghost model = { flat (E·Entry .longest) };
+
+    ghost state = { λ f. State-of f };
+
+    ghost Valid = { Valid (E·Entry .longest) };
+
+    ghost longest = { E·Entry .longest };
+
+    ghost lawful = { lawful (E·Entry .longest) (E·Entry .wide) (E·Entry .narrow) };
+
+    ghost Memory = { Memory E };
+
+    ghost memory = { λ f. Memory-of f };
+
+    ghost sound = { λ f. Sound-of (E·Entry .longest) f };
+
+    ghost valid = { λ f s. s .valid };
+
+    fn count(&mut self) -> u32 {
+        self.runs
+    }
+
+    fn length(&mut self, at: E::Index) -> u32 {
+        self.run_length(E::number_of(at))
+    }
+
+    fn entry(&mut self, at: E::Index, slot: Slot) -> Result<E, StoreFault> {
+        let i = E::number_of(at);
+        match self.may_read(i, slot.number) {
+            Ok(_) => Ok(self.read(i, slot.number)),
+            Err(f) => Err(f),
+        }
+    }
+
+    fn grow(&mut self, n: u32) -> Result<(), StoreFault> {
+        self.may_grow(n)
+    }
+
+    fn shrink(&mut self, n: u32) -> Result<(), StoreFault> {
+        self.may_shrink(n)
+    }
+
+    fn exchange(&mut self, at: E::Index, slot: Slot, e: E) -> Result<E, StoreFault> {
+        let i = E::number_of(at);
+        match self.may_read(i, slot.number) {
+            Ok(_) => {
+                let old = self.read(i, slot.number);
+                self.replace(i, slot.number, e);
+                Ok(old)
+            }
+            Err(f) => Err(f),
+        }
+    }
+
+    fn open(&mut self, e: E) -> Result<E::Index, StoreFault> {
+        match self.may_grow(0) {
+            Ok(_) => Ok(E::index_of(self.open_run(e))),
+            Err(f) => Err(f),
+        }
+    }
+
+    fn insert(&mut self, at: E::Index, slot: Slot, e: E) -> Result<E::Index, StoreFault> {
+        let i = E::number_of(at);
+        match self.may_insert(i, slot.number) {
+            Ok(n) => {
+                self.put_in(i, n, slot.number, e);
+                Ok(at)
+            }
+            Err(f) => Err(f),
+        }
+    }
+
+    fn remove(&mut self, at: E::Index, slot: Slot) -> Result<(E, E::Index), StoreFault> {
+        let i = E::number_of(at);
+        match self.may_remove(i, slot.number) {
+            Ok(n) => {
+                let old = self.read(i, slot.number);
+                Ok((old, E::index_of(self.take_out(i, n, slot.number))))
+            }
+            Err(f) => Err(f),
+        }
+    }
+}
