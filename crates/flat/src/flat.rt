@@ -2,17 +2,18 @@
 // A run stays at its index until it ends, and the group freed last is used first.
 ghost use mathlib.Core.Path.{_≡_};
 ghost use mathlib.Core.Bool.{true};
-ghost use mathlib.Core.List.{List, [], _∷_};
-ghost use Prim.Native.Nat.{ℕ, _+_, _<_, _≤_};
+ghost use Prim.Native.Nat.{ℕ, _<_, _≤_};
 ghost use lib.ListN.{length, getD, set, take, drop};
 ghost use Rattle.std.specs.declared.option.Option.the-variants.{Some, None};
-ghost use Rattle.runs.specs.Lists.{indexes, nth, with-new, without};
-ghost use Rattle.runs.specs.Refusals.{told};
-ghost use Rattle.runs.specs.Runs.{grows, shrinks, no-entry, no-insert, no-remove};
-ghost use Rattle.runs.specs.Calls.{Says, Tells, taken};
+ghost use Rattle.runs.specs.Lists.{indexes, nth, without};
+ghost use Rattle.runs.specs.Runs.{grows, no-insert, no-remove};
+ghost use Rattle.runs.specs.Calls.{taken};
 ghost use Rattle.flat_model.specs.Flat.{State, Valid, fresh, flat, has, group, held, kept, released};
 ghost use Rattle.flat_model.proofs.Lawful.{lawful};
 ghost use Rattle.flat.specs.Meaning.{State-of, Sound-of, Memory, Memory-of};
+
+mod asking;
+
 use bitmap::Slot;
 use runs::entry::Entry;
 use runs::fault::StoreFault;
@@ -71,114 +72,6 @@ impl<'a, E: Entry> Flat<'a, E> {
             claimed: 0,
             head: 0,
             runs: 0,
-        }
-    }
-
-    // How many entries the run at an index has; 0 where none is live.
-    fn run_length(&self, at: u32) -> u32
-        requires { ⌜ Sound-of (E·Entry .longest) (now self) ⌝ }
-        ensures { λ r. ⌜ r ≡ length (State-of (now (self .entry)) .live at) ⌝ }
-    {
-        if (at as usize) < self.ledger.len() {
-            (self.ledger[at as usize] % 64) as u32
-        } else {
-            0
-        }
-    }
-
-    // Whether a group can be had.
-    fn has_group(&self) -> bool
-        requires { ⌜ Sound-of (E·Entry .longest) (now self) ⌝ }
-        ensures { λ r. ⌜ r ≡ has (E·Entry .longest) (State-of (now (self .entry))) ⌝ }
-    {
-        if self.head > 0 {
-            true
-        } else {
-            (self.claimed + E::longest_run()) as usize <= self.cells.len()
-        }
-    }
-
-    // Whether a run of n entries can have one more; only the first needs a group.
-    fn may_grow(&self, n: u32) -> Result<(), StoreFault>
-        requires { ⌜ Sound-of (E·Entry .longest) (now self) ⌝ }
-        ensures { λ r. ⌜ Says told r (grows (flat (E·Entry .longest)) (State-of (now (self .entry))) n) ⌝ }
-    {
-        if n >= E::longest_run() {
-            return Err(StoreFault::AtLongest);
-        }
-        if n > 0 {
-            return Ok(());
-        }
-        if self.has_group() {
-            Ok(())
-        } else {
-            Err(StoreFault::NoGroup(0))
-        }
-    }
-
-    // Whether a run of n entries can have one less.
-    fn may_shrink(&self, n: u32) -> Result<(), StoreFault>
-        requires { ⌜ Sound-of (E·Entry .longest) (now self) ⌝ }
-        ensures { λ r. ⌜ Says told r (shrinks (flat (E·Entry .longest)) (State-of (now (self .entry))) n) ⌝ }
-    {
-        let longest = E::longest_run();
-        if n == 0 || n > longest {
-            Err(StoreFault::BadSlot)
-        } else {
-            Ok(())
-        }
-    }
-
-    // Whether the run at an index has the slot.
-    fn may_read(&self, at: u32, slot: u32) -> Result<(), StoreFault>
-        requires { ⌜ Sound-of (E·Entry .longest) (now self) ⌝ }
-        ensures { λ r. ⌜ Says told r (no-entry (flat (E·Entry .longest)) (State-of (now (self .entry))) at slot) ⌝ }
-    {
-        let n = self.run_length(at);
-        if n == 0 {
-            return Err(StoreFault::NotLive);
-        }
-        if slot >= n {
-            return Err(StoreFault::BadSlot);
-        }
-        Ok(())
-    }
-
-    // The length of the run at an index that may get an entry before the slot.
-    fn may_insert(&self, at: u32, slot: u32) -> Result<u32, StoreFault>
-        requires { ⌜ Sound-of (E·Entry .longest) (now self) ⌝ }
-        ensures { λ r. ⌜ Tells told r (no-insert (flat (E·Entry .longest)) (State-of (now (self .entry))) at slot)
-            (λ n. n ≡ length (State-of (now (self .entry)) .live at)) ⌝ }
-    {
-        let n = self.run_length(at);
-        if n == 0 {
-            return Err(StoreFault::NotLive);
-        }
-        if slot > n {
-            return Err(StoreFault::BadSlot);
-        }
-        match self.may_grow(n) {
-            Ok(_) => Ok(n),
-            Err(f) => Err(f),
-        }
-    }
-
-    // The length of the run at an index that may lose the entry at the slot.
-    fn may_remove(&self, at: u32, slot: u32) -> Result<u32, StoreFault>
-        requires { ⌜ Sound-of (E·Entry .longest) (now self) ⌝ }
-        ensures { λ r. ⌜ Tells told r (no-remove (flat (E·Entry .longest)) (State-of (now (self .entry))) at slot)
-            (λ n. n ≡ length (State-of (now (self .entry)) .live at)) ⌝ }
-    {
-        let n = self.run_length(at);
-        if n == 0 {
-            return Err(StoreFault::NotLive);
-        }
-        if slot >= n {
-            return Err(StoreFault::BadSlot);
-        }
-        match self.may_shrink(n) {
-            Ok(_) => Ok(n),
-            Err(f) => Err(f),
         }
     }
 
