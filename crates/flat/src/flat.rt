@@ -52,13 +52,6 @@ impl<'a, E: Entry> Flat<'a, E> {
         }
     }
 
-    // How many cells have ever been in a group.
-    pub fn claimed(&self) -> u32
-        ensures { λ r. ⌜ r ≡ State-of (now (self .entry)) .claimed ⌝ }
-    {
-        self.claimed
-    }
-
     fn over(cells: &'a mut [E], ledger: &'a mut [u64]) -> Flat<'a, E>
         requires same { ⌜ length (now ledger) ≡ length (now cells) ⌝ }
         requires low { ⌜ length (now cells) ≤ indexes ⌝ }

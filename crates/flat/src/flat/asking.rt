@@ -11,6 +11,13 @@ use runs::entry::Entry;
 use runs::fault::StoreFault;
 
 impl<'a, E: Entry> Flat<'a, E> {
+    // How many cells have ever been in a group.
+    pub fn claimed(&self) -> u32
+        ensures { λ r. ⌜ r ≡ State-of (now (self .entry)) .claimed ⌝ }
+    {
+        self.claimed
+    }
+
     // How many entries the run at an index has; 0 where none is live.
     pub(super) fn run_length(&self, at: u32) -> u32
         requires { ⌜ Sound-of (E·Entry .longest) (now self) ⌝ }
@@ -66,10 +73,11 @@ impl<'a, E: Entry> Flat<'a, E> {
         }
     }
 
-    // Whether the run at an index has the slot.
-    pub(super) fn may_read(&self, at: u32, slot: u32) -> Result<(), StoreFault>
+    // The length of the run at an index that has the slot.
+    pub(super) fn may_read(&self, at: u32, slot: u32) -> Result<u32, StoreFault>
         requires { ⌜ Sound-of (E·Entry .longest) (now self) ⌝ }
-        ensures { λ r. ⌜ Says told r (no-entry (flat (E·Entry .longest)) (State-of (now (self .entry))) at slot) ⌝ }
+        ensures { λ r. ⌜ Tells told r (no-entry (flat (E·Entry .longest)) (State-of (now (self .entry))) at slot)
+            (λ n. n ≡ length (State-of (now (self .entry)) .live at)) ⌝ }
     {
         let n = self.run_length(at);
         if n == 0 {
@@ -78,7 +86,7 @@ impl<'a, E: Entry> Flat<'a, E> {
         if slot >= n {
             return Err(StoreFault::BadSlot);
         }
-        Ok(())
+        Ok(n)
     }
 
     // The length of the run at an index that may get an entry before the slot.
@@ -106,15 +114,11 @@ impl<'a, E: Entry> Flat<'a, E> {
         ensures { λ r. ⌜ Tells told r (no-remove (flat (E·Entry .longest)) (State-of (now (self .entry))) at slot)
             (λ n. n ≡ length (State-of (now (self .entry)) .live at)) ⌝ }
     {
-        let n = self.run_length(at);
-        if n == 0 {
-            return Err(StoreFault::NotLive);
-        }
-        if slot >= n {
-            return Err(StoreFault::BadSlot);
-        }
-        match self.may_shrink(n) {
-            Ok(_) => Ok(n),
+        match self.may_read(at, slot) {
+            Ok(n) => match self.may_shrink(n) {
+                Ok(_) => Ok(n),
+                Err(f) => Err(f),
+            },
             Err(f) => Err(f),
         }
     }
