@@ -95,7 +95,7 @@ module _ {E : Type 0} (longest : ℕ) (la : 31 ≤ longest) (lb : longest ≤ 32
     none-freed : h ≡ 0 → freed-from L h ≡ []
     none-freed e = none-linked L (freed-from L h) (subst (λ (m : ℕ). Linked L m (freed-from L h)) e (s .ends))
 
-    claims : h ≡ 0 → has longest (stateOf C L c h) ≡ true → c + longest ≤ length C
+    pub claims : h ≡ 0 → has longest (stateOf C L c h) ≡ true → c + longest ≤ length C
     claims e t = leb-true (c + longest) (length C) (ap (λ (fs : List ℕ). some-free fs || leb (c + longest) (length C)) (sym (none-freed e)) ∙ t)
 
     -- the next unclaimed group, whose size the code has as m

@@ -65,12 +65,13 @@ impl<'a, E: Entry> Flat<'a, E> {
         requires { ⌜ Sound-of (E·Entry .longest) (now self) ⌝ }
         ensures { λ r. ⌜ Says told r (shrinks (flat (E·Entry .longest)) (State-of (now (self .entry))) n) ⌝ }
     {
-        let longest = E::longest_run();
-        if n == 0 || n > longest {
-            Err(StoreFault::BadSlot)
-        } else {
-            Ok(())
+        if n == 0 {
+            return Err(StoreFault::BadSlot);
         }
+        if n > E::longest_run() {
+            return Err(StoreFault::BadSlot);
+        }
+        Ok(())
     }
 
     // The length of the run at an index that has the slot.

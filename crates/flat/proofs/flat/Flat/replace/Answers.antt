@@ -7,6 +7,14 @@ use Rattle.flat_model.proofs.Cells.{replaced}
 use Rattle.flat_model.proofs.Steps.{slot-room}
 use Rattle.flat.proofs.flat.Flat.replace.Needs as need
 
+pub add-e : need.add-e
+add-e g c =
+    let w = slot-room _ (g .E·Entry .wide) (g .E·Entry .narrow) _ _ _ _ _ (c .pre .sound) (c .args .at) (c .args .slot) (c .pre .slot) in
+    omega arith
+
+pub index-self-at : need.index-self-at
+index-self-at g c = slot-room _ (g .E·Entry .wide) (g .E·Entry .narrow) _ _ _ _ _ (c .pre .sound) (c .args .at) (c .args .slot) (c .pre .slot) .0
+
 pub offset-self-at : need.offset-self-at
 offset-self-at g c =
     let w = slot-room _ (g .E·Entry .wide) (g .E·Entry .narrow) _ _ _ _ _ (c .pre .sound) (c .args .at) (c .args .slot) (c .pre .slot) in
