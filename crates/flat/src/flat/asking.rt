@@ -38,7 +38,7 @@ impl<'a, E: Entry> Flat<'a, E> {
         if self.head > 0 {
             true
         } else {
-            (self.claimed + E::longest_run()) as usize <= self.cells.len()
+            self.cells.len() >= (self.claimed + E::longest_run()) as usize
         }
     }
 
