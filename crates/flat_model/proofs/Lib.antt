@@ -1,0 +1,10 @@
+pub mod Asking
+pub mod Taking
+pub mod Lawful
+pub mod Placed
+pub mod Chains
+pub mod Windows
+pub mod Words
+pub mod Cells
+pub mod Steps
+pub mod Starts
