@@ -1,0 +1,187 @@
+// A limit on the entries of all runs of a store, and itself a store: over any other store, over another limit too.
+ghost use mathlib.Core.Path.{_≡_};
+ghost use mathlib.Core.Bool.{_&&_};
+ghost use Prim.Native.Nat.{ℕ, _+_, _-_, _<_};
+ghost use lib.Dec.{ltb};
+ghost use Rattle.runs.specs.Refusals.{told};
+ghost use Rattle.runs.specs.Calls.{Asked};
+ghost use Rattle.quota_model.specs.Quotas.{State, up, capped};
+ghost use Rattle.quota_model.proofs.Lawful.{lawful};
+ghost use Rattle.quota.specs.Layer.{State-of, Memory-of, Sound-of, reached, stops, with-used, told-occupied};
+use bitmap::Slot;
+use runs::entry::Entry;
+use runs::fault::StoreFault;
+use runs::store::RunStore;
+
+#[derive(Drop)]
+pub struct Quota<S> {
+    below: S,
+    limit: u32,
+    used: u32,
+}
+
+// A store with a live run, handed back as it was.
+#[derive(Drop)]
+pub struct Occupied<S> {
+    pub below: S,
+}
+
+impl<S> Occupied<S> {
+    pub fn number(&self) -> u32
+        ensures { λ r. ⌜ r ≡ told-occupied (now (self .entry)) .number ⌝ }
+    {
+        12
+    }
+}
+
+// A refusal of the store below crosses this layer.
+fn crossed(f: StoreFault) -> StoreFault
+    ensures { λ r. ⌜ told r ≡ up (told f) ⌝ }
+{
+    match f {
+        StoreFault::NoGroup(n) => StoreFault::NoGroup(n.saturating_add(1)),
+        StoreFault::LimitReached(n) => StoreFault::LimitReached(n.saturating_add(1)),
+        other => other,
+    }
+}
+
+pub impl<E: Entry, S: RunStore<Item = E>> RunStore for Quota<S> as QuotaStore {
+    type Item = E;
+
+    ghost State = { State (S·RunStore .State) };
+
+    ghost model = { capped (S·RunStore .model) };
+
+    ghost state = { State-of S·RunStore };
+
+    ghost Valid = { λ s. S·RunStore .Valid (s .below) };
+
+    ghost longest = { S·RunStore .longest };
+
+    ghost lawful = { lawful (S·RunStore .lawful) };
+
+    ghost Memory = { S·RunStore .Memory × ℕ × ℕ };
+
+    ghost memory = { Memory-of S·RunStore };
+
+    ghost sound = { Sound-of S·RunStore };
+
+    ghost valid = { λ q h. S·RunStore .valid (q .below) (h .0) };
+
+    fn count(&mut self) -> u32 {
+        self.below.count()
+    }
+
+    fn length(&mut self, at: E::Index) -> u32 {
+        self.below.length(at)
+    }
+
+    fn entry(&mut self, at: E::Index, slot: Slot) -> Result<E, StoreFault> {
+        match self.below.entry(at, slot) {
+            Ok(e) => Ok(e),
+            Err(f) => Err(f),
+        }
+    }
+
+    fn grow(&mut self, n: u32) -> Result<(), StoreFault> {
+        if self.at_limit(n) {
+            return Err(StoreFault::LimitReached(0));
+        }
+        match self.below.grow(n) {
+            Ok(_) => Ok(()),
+            Err(f) => Err(crossed(f)),
+        }
+    }
+
+    fn shrink(&mut self, n: u32) -> Result<(), StoreFault> {
+        match self.below.shrink(n) {
+            Ok(_) => Ok(()),
+            Err(f) => Err(crossed(f)),
+        }
+    }
+
+    fn exchange(&mut self, at: E::Index, slot: Slot, e: E) -> Result<E, StoreFault> {
+        match self.below.exchange(at, slot, e) {
+            Ok(old) => Ok(old),
+            Err(f) => Err(f),
+        }
+    }
+
+    fn open(&mut self, e: E) -> Result<E::Index, StoreFault> {
+        if self.at_limit(0) {
+            return Err(StoreFault::LimitReached(0));
+        }
+        match self.below.open(e) {
+            Ok(j) => {
+                self.gain();
+                Ok(j)
+            }
+            Err(f) => Err(crossed(f)),
+        }
+    }
+
+    fn insert(&mut self, at: E::Index, slot: Slot, e: E) -> Result<E::Index, StoreFault> {
+        if self.stops_insert(at, slot) {
+            return Err(StoreFault::LimitReached(0));
+        }
+        match self.below.insert(at, slot, e) {
+            Ok(j) => {
+                self.gain();
+                Ok(j)
+            }
+            Err(f) => Err(crossed(f)),
+        }
+    }
+
+    fn remove(&mut self, at: E::Index, slot: Slot) -> Result<(E, E::Index), StoreFault> {
+        match self.below.remove(at, slot) {
+            Ok(taken) => {
+                self.lose();
+                Ok(taken)
+            }
+            Err(f) => Err(crossed(f)),
+        }
+    }
+}
+
+impl<E: Entry, S: RunStore<Item = E>> Quota<S> {
+    // Whether the limit refuses a run of n entries one more: where it is reached, and n is in the list.
+    // The count below is asked for what comes with it, that the store's longest run is that of its entries.
+    fn at_limit(&mut self, n: u32) -> bool
+        requires { ⌜ Sound-of S·RunStore (now self) ⌝ }
+        ensures asked { λ _. ⌜ Asked (Sound-of S·RunStore) (State-of S·RunStore) (Memory-of S·RunStore) (now (self .entry)) (now (self .exit)) ⌝ }
+        ensures tied { λ _. ⌜ S·RunStore .longest ≡ E·Entry .longest ⌝ }
+        ensures answer { λ r. ⌜ r ≡ (reached S·RunStore (now (self .entry)) && ltb n (S·RunStore .longest)) ⌝ }
+    {
+        let _runs = self.below.count();
+        self.used == self.limit && n < E::longest_run()
+    }
+
+    // Whether the limit refuses an entry before a slot. It comes last: where no run is live, or the slot is beyond
+    // its range, the store below is asked and says so.
+    fn stops_insert(&mut self, at: E::Index, slot: Slot) -> bool
+        requires { ⌜ Sound-of S·RunStore (now self) ⌝ }
+        ensures asked { λ _. ⌜ Asked (Sound-of S·RunStore) (State-of S·RunStore) (Memory-of S·RunStore) (now (self .entry)) (now (self .exit)) ⌝ }
+        ensures tied { λ _. ⌜ S·RunStore .longest ≡ E·Entry .longest ⌝ }
+        ensures answer { λ r. ⌜ r ≡ stops S·RunStore (now (self .entry)) (S·RunStore .longest) (E·Entry .number at) (slot .number) ⌝ }
+    {
+        let n = self.below.length(at);
+        self.at_limit(n) && n > 0 && slot.number <= n
+    }
+
+    // The store below has one entry more.
+    fn gain(&mut self)
+        requires { ⌜ now self .used < 4294967295 ⌝ }
+        ensures { λ _. ⌜ now (self .exit) ≡ with-used (now (self .entry)) (now (self .entry) .used + 1) ⌝ }
+    {
+        self.used += 1;
+    }
+
+    // The store below has one entry less.
+    fn lose(&mut self)
+        requires { ⌜ 0 < now self .used ⌝ }
+        ensures { λ _. ⌜ now (self .exit) ≡ with-used (now (self .entry)) (now (self .entry) .used - 1) ⌝ }
+    {
+        self.used -= 1;
+    }
+}
