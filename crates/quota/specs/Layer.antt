@@ -1,11 +1,12 @@
 -- A limit as the code holds it: what it means, what it holds, and when it agrees with the store below.
 use mathlib.Core.Path.{_≡_}
-use mathlib.Core.Bool.{Bool, not, _&&_}
+use mathlib.Core.Bool.{Bool, cond, not, _&&_}
 use mathlib.Core.List.{[]}
 use Prim.Native.Nat.{ℕ}
 use lib.Dec.{eqb, ltb}
 use lib.ListN.{length}
-use Rattle.runs.specs.Refusals.{Refusal, refusal}
+use Rattle.std.specs.declared.option.Option.the-variants.{Some, None}
+use Rattle.runs.specs.Refusals.{Refusal, Grant, refusal}
 use Rattle.runs.specs.Runs.{total}
 use Rattle.runs.specs.declared.store.RunStore.{Ghosts}
 use Rattle.quota_model.specs.Quotas.{State}
@@ -32,10 +33,20 @@ module _ {S E Ix : Type 0} (b : Ghosts S E Ix) where
   stops q longest i k = not (eqb (length (b .model .live (b .state (q .below)) i)) 0) && (not (ltb (length (b .model .live (b .state (q .below)) i)) k)
       && (reached q && ltb (length (b .model .live (b .state (q .below)) i)) longest))
 
+  -- the layer that a start makes of a store with no run
+  pub record Started (below : S) (limit : ℕ) (q : Quota S) : Type 0 where
+    pub kept : Sound-of q
+    pub after : State-of q ≡ record { limit = limit; below = b .state below }
+    pub holds : Memory-of q ≡ (b .memory below, limit, 0)
+
 -- the layer with another count
 abbrev pub with-used : {S : Type 0} → Quota S → ℕ → Quota S
 with-used q n = record { below = q .below; limit = q .limit; used = n }
 
--- a limit is put over a store with no live run only
+-- a store handed back: a limit is put over a store with no live run only
 abbrev pub told-occupied : {S : Type 0} → Occupied S → Refusal
 told-occupied o = refusal 12 []
+
+-- a store with n live runs
+abbrev pub no-start : ℕ → Grant
+no-start n = cond (eqb n 0) None (Some (refusal 12 []))

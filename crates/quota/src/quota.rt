@@ -1,13 +1,15 @@
 // A limit on the entries of all runs of a store, and itself a store: over any other store, over another limit too.
 ghost use mathlib.Core.Path.{_≡_};
-ghost use mathlib.Core.Bool.{_&&_};
+ghost use mathlib.Core.Bool.{true, _&&_};
 ghost use Prim.Native.Nat.{ℕ, _+_, _-_, _<_};
-ghost use lib.Dec.{ltb};
+ghost use lib.Dec.{eqb, ltb};
+ghost use Rattle.std.specs.Results.{Cases};
 ghost use Rattle.runs.specs.Refusals.{told};
-ghost use Rattle.runs.specs.Calls.{Asked};
+ghost use Rattle.runs.specs.Runs.{count, total};
+ghost use Rattle.runs.specs.Calls.{Says, Asked};
 ghost use Rattle.quota_model.specs.Quotas.{State, up, capped};
 ghost use Rattle.quota_model.proofs.Lawful.{lawful};
-ghost use Rattle.quota.specs.Layer.{State-of, Memory-of, Sound-of, reached, stops, with-used, told-occupied};
+ghost use Rattle.quota.specs.Layer.{State-of, Memory-of, Sound-of, reached, stops, with-used, Started, no-start, told-occupied};
 use bitmap::Slot;
 use runs::entry::Entry;
 use runs::fault::StoreFault;
@@ -32,6 +34,54 @@ impl<S> Occupied<S> {
     {
         12
     }
+}
+
+impl<E: Entry, S: RunStore<Item = E>> Quota<S> {
+    // A limit over a store with no live run. Any other is refused 12 and handed back.
+    pub fn start(mut below: S, limit: u32) -> Result<Quota<S>, Occupied<S>>
+        requires { ⌜ S·RunStore .sound below ⌝ }
+        ensures answer { λ r. ⌜ Says told-occupied r (no-start (count (S·RunStore .model .live (S·RunStore .state below)))) ⌝ }
+        ensures after { λ r. ⌜ Cases r (λ q. Started S·RunStore below limit q) (λ o. Asked (S·RunStore .sound) (S·RunStore .state) (S·RunStore .memory) below (o .below)) ⌝ }
+    {
+        if is_vacant(&mut below) {
+            Ok(Quota {
+                below,
+                limit,
+                used: 0,
+            })
+        } else {
+            Err(Occupied { below })
+        }
+    }
+
+    // The store below, to look at.
+    pub fn below(&self) -> &S
+        ensures { λ r. ⌜ now r ≡ now (self .entry) .below ⌝ }
+    {
+        &self.below
+    }
+
+    // The store below, without the limit.
+    pub fn into_below(self) -> S
+        ensures { λ r. ⌜ r ≡ self .below ⌝ }
+    {
+        let Quota {
+            below,
+            limit: _,
+            used: _,
+        } = self;
+        below
+    }
+}
+
+// Whether no run is live; then there is no entry.
+fn is_vacant<E: Entry, S: RunStore<Item = E>>(store: &mut S) -> bool
+    requires { ⌜ S·RunStore .sound (now store) ⌝ }
+    ensures asked { λ _. ⌜ Asked (S·RunStore .sound) (S·RunStore .state) (S·RunStore .memory) (now (store .entry)) (now (store .exit)) ⌝ }
+    ensures answer { λ r. ⌜ r ≡ eqb (count (S·RunStore .model .live (S·RunStore .state (now (store .entry))))) 0 ⌝ }
+    ensures none { λ r. ⌜ (r ≡ true → total (S·RunStore .model .live (S·RunStore .state (now (store .entry)))) ≡ 0) ⌝ }
+{
+    store.count() == 0
 }
 
 // A refusal of the store below crosses this layer.
@@ -153,7 +203,7 @@ impl<E: Entry, S: RunStore<Item = E>> Quota<S> {
         ensures tied { λ _. ⌜ S·RunStore .longest ≡ E·Entry .longest ⌝ }
         ensures answer { λ r. ⌜ r ≡ (reached S·RunStore (now (self .entry)) && ltb n (S·RunStore .longest)) ⌝ }
     {
-        let _runs = self.below.count();
+        let _runs = self.count();
         self.used == self.limit && n < E::longest_run()
     }
 
@@ -165,7 +215,7 @@ impl<E: Entry, S: RunStore<Item = E>> Quota<S> {
         ensures tied { λ _. ⌜ S·RunStore .longest ≡ E·Entry .longest ⌝ }
         ensures answer { λ r. ⌜ r ≡ stops S·RunStore (now (self .entry)) (S·RunStore .longest) (E·Entry .number at) (slot .number) ⌝ }
     {
-        let n = self.below.length(at);
+        let n = self.length(at);
         self.at_limit(n) && n > 0 && slot.number <= n
     }
 
