@@ -6,6 +6,7 @@ use Prim.Native.Nat.{ℕ}
 use lib.Dec.{eqb, ltb}
 use lib.ListN.{length}
 use Rattle.std.specs.declared.option.Option.the-variants.{Some, None}
+use Rattle.runs.specs.Calls.{Asked, Called}
 use Rattle.runs.specs.Refusals.{Refusal, Grant, refusal}
 use Rattle.runs.specs.Runs.{total}
 use Rattle.runs.specs.declared.store.RunStore.{Ghosts}
@@ -23,6 +24,13 @@ module _ {S E Ix : Type 0} (b : Ghosts S E Ix) where
   -- the layer has counted the entries of the store below, which is sound
   abbrev pub Sound-of : Quota S → Type 0
   Sound-of q = b .sound (q .below) × (q .used ≡ total (b .model .live (b .state (q .below))))
+
+  -- what a question and a call leave of the layer
+  abbrev pub Asks : Quota S → Quota S → Type 0
+  Asks = Asked Sound-of State-of Memory-of
+
+  abbrev pub Leads : Quota S → Grant → State (b .State) → Quota S → Type 0
+  Leads = Called Sound-of State-of Memory-of
 
   -- the entries of all runs number the limit
   abbrev pub reached : Quota S → Bool

@@ -4,12 +4,14 @@ ghost use mathlib.Core.Bool.{true, _&&_};
 ghost use Prim.Native.Nat.{ℕ, _+_, _-_, _<_};
 ghost use lib.Dec.{eqb, ltb};
 ghost use Rattle.std.specs.Results.{Cases};
+ghost use Rattle.std.specs.declared.option.Option.the-variants.{Some};
+ghost use Rattle.runs.specs.Lists.{nth};
 ghost use Rattle.runs.specs.Refusals.{told};
-ghost use Rattle.runs.specs.Runs.{count, total};
-ghost use Rattle.runs.specs.Calls.{Says, Asked};
+ghost use Rattle.runs.specs.Runs.{count, total, grows, shrinks, no-entry, no-insert, no-remove};
+ghost use Rattle.runs.specs.Calls.{Says, Tells, Asked};
 ghost use Rattle.quota_model.specs.Quotas.{State, up, capped};
 ghost use Rattle.quota_model.proofs.Lawful.{lawful};
-ghost use Rattle.quota.specs.Layer.{State-of, Memory-of, Sound-of, reached, stops, with-used, Started, no-start, told-occupied};
+ghost use Rattle.quota.specs.Layer.{State-of, Memory-of, Sound-of, Asks, Leads, reached, stops, with-used, Started, no-start, told-occupied};
 use bitmap::Slot;
 use runs::entry::Entry;
 use runs::fault::StoreFault;
@@ -134,6 +136,36 @@ pub impl<E: Entry, S: RunStore<Item = E>> RunStore for Quota<S> as QuotaStore {
     }
 
     fn grow(&mut self, n: u32) -> Result<(), StoreFault> {
+        self.may_grow(n)
+    }
+
+    fn shrink(&mut self, n: u32) -> Result<(), StoreFault> {
+        self.may_shrink(n)
+    }
+
+    fn exchange(&mut self, at: E::Index, slot: Slot, e: E) -> Result<E, StoreFault> {
+        self.replace(at, slot, e)
+    }
+
+    fn open(&mut self, e: E) -> Result<E::Index, StoreFault> {
+        self.open_run(e)
+    }
+
+    fn insert(&mut self, at: E::Index, slot: Slot, e: E) -> Result<E::Index, StoreFault> {
+        self.put_in(at, slot, e)
+    }
+
+    fn remove(&mut self, at: E::Index, slot: Slot) -> Result<(E, E::Index), StoreFault> {
+        self.take_out(at, slot)
+    }
+}
+
+impl<E: Entry, S: RunStore<Item = E>> Quota<S> {
+    fn may_grow(&mut self, n: u32) -> Result<(), StoreFault>
+        requires { ⌜ Sound-of S·RunStore (now self) ⌝ }
+        ensures asked { λ _. ⌜ Asks S·RunStore (now (self .entry)) (now (self .exit)) ⌝ }
+        ensures answer { λ r. ⌜ Says told r (grows (capped (S·RunStore .model)) (State-of S·RunStore (now (self .entry))) n) ⌝ }
+    {
         if self.at_limit(n) {
             return Err(StoreFault::LimitReached(0));
         }
@@ -143,21 +175,42 @@ pub impl<E: Entry, S: RunStore<Item = E>> RunStore for Quota<S> as QuotaStore {
         }
     }
 
-    fn shrink(&mut self, n: u32) -> Result<(), StoreFault> {
+    fn may_shrink(&mut self, n: u32) -> Result<(), StoreFault>
+        requires { ⌜ Sound-of S·RunStore (now self) ⌝ }
+        ensures asked { λ _. ⌜ Asks S·RunStore (now (self .entry)) (now (self .exit)) ⌝ }
+        ensures answer { λ r. ⌜ Says told r (shrinks (capped (S·RunStore .model)) (State-of S·RunStore (now (self .entry))) n) ⌝ }
+    {
         match self.below.shrink(n) {
             Ok(_) => Ok(()),
             Err(f) => Err(crossed(f)),
         }
     }
 
-    fn exchange(&mut self, at: E::Index, slot: Slot, e: E) -> Result<E, StoreFault> {
+    // The number of entries stays.
+    fn replace(&mut self, at: E::Index, slot: Slot, e: E) -> Result<E, StoreFault>
+        requires { ⌜ Sound-of S·RunStore (now self) ⌝ }
+        ensures called { λ _. ⌜ Leads S·RunStore (now (self .entry))
+            (no-entry (capped (S·RunStore .model)) (State-of S·RunStore (now (self .entry))) (E·Entry .number at) (slot .number))
+            (capped (S·RunStore .model) .exchanged (State-of S·RunStore (now (self .entry))) (E·Entry .number at) (slot .number) e)
+            (now (self .exit)) ⌝ }
+        ensures answer { λ r. ⌜ Tells told r (no-entry (capped (S·RunStore .model)) (State-of S·RunStore (now (self .entry))) (E·Entry .number at) (slot .number))
+            (λ old. nth (S·RunStore .model .live (S·RunStore .state (now (self .entry) .below)) (E·Entry .number at)) (slot .number) ≡ Some old) ⌝ }
+    {
         match self.below.exchange(at, slot, e) {
             Ok(old) => Ok(old),
             Err(f) => Err(f),
         }
     }
 
-    fn open(&mut self, e: E) -> Result<E::Index, StoreFault> {
+    fn open_run(&mut self, e: E) -> Result<E::Index, StoreFault>
+        requires { ⌜ Sound-of S·RunStore (now self) ⌝ }
+        ensures called { λ _. ⌜ Leads S·RunStore (now (self .entry))
+            (grows (capped (S·RunStore .model)) (State-of S·RunStore (now (self .entry))) 0)
+            (capped (S·RunStore .model) .opened (State-of S·RunStore (now (self .entry))) e)
+            (now (self .exit)) ⌝ }
+        ensures answer { λ r. ⌜ Tells told r (grows (capped (S·RunStore .model)) (State-of S·RunStore (now (self .entry))) 0)
+            (λ j. E·Entry .number j ≡ capped (S·RunStore .model) .opened-at (State-of S·RunStore (now (self .entry))) e) ⌝ }
+    {
         if self.at_limit(0) {
             return Err(StoreFault::LimitReached(0));
         }
@@ -170,7 +223,15 @@ pub impl<E: Entry, S: RunStore<Item = E>> RunStore for Quota<S> as QuotaStore {
         }
     }
 
-    fn insert(&mut self, at: E::Index, slot: Slot, e: E) -> Result<E::Index, StoreFault> {
+    fn put_in(&mut self, at: E::Index, slot: Slot, e: E) -> Result<E::Index, StoreFault>
+        requires { ⌜ Sound-of S·RunStore (now self) ⌝ }
+        ensures called { λ _. ⌜ Leads S·RunStore (now (self .entry))
+            (no-insert (capped (S·RunStore .model)) (State-of S·RunStore (now (self .entry))) (E·Entry .number at) (slot .number))
+            (capped (S·RunStore .model) .inserted (State-of S·RunStore (now (self .entry))) (E·Entry .number at) (slot .number) e)
+            (now (self .exit)) ⌝ }
+        ensures answer { λ r. ⌜ Tells told r (no-insert (capped (S·RunStore .model)) (State-of S·RunStore (now (self .entry))) (E·Entry .number at) (slot .number))
+            (λ j. E·Entry .number j ≡ capped (S·RunStore .model) .inserted-at (State-of S·RunStore (now (self .entry))) (E·Entry .number at) (slot .number) e) ⌝ }
+    {
         if self.stops_insert(at, slot) {
             return Err(StoreFault::LimitReached(0));
         }
@@ -183,7 +244,16 @@ pub impl<E: Entry, S: RunStore<Item = E>> RunStore for Quota<S> as QuotaStore {
         }
     }
 
-    fn remove(&mut self, at: E::Index, slot: Slot) -> Result<(E, E::Index), StoreFault> {
+    fn take_out(&mut self, at: E::Index, slot: Slot) -> Result<(E, E::Index), StoreFault>
+        requires { ⌜ Sound-of S·RunStore (now self) ⌝ }
+        ensures called { λ _. ⌜ Leads S·RunStore (now (self .entry))
+            (no-remove (capped (S·RunStore .model)) (State-of S·RunStore (now (self .entry))) (E·Entry .number at) (slot .number))
+            (capped (S·RunStore .model) .removed (State-of S·RunStore (now (self .entry))) (E·Entry .number at) (slot .number))
+            (now (self .exit)) ⌝ }
+        ensures answer { λ r. ⌜ Tells told r (no-remove (capped (S·RunStore .model)) (State-of S·RunStore (now (self .entry))) (E·Entry .number at) (slot .number))
+            (λ x. (nth (S·RunStore .model .live (S·RunStore .state (now (self .entry) .below)) (E·Entry .number at)) (slot .number) ≡ Some (x .0))
+            × (E·Entry .number (x .1) ≡ capped (S·RunStore .model) .removed-at (State-of S·RunStore (now (self .entry))) (E·Entry .number at) (slot .number))) ⌝ }
+    {
         match self.below.remove(at, slot) {
             Ok(taken) => {
                 self.lose();
@@ -192,14 +262,12 @@ pub impl<E: Entry, S: RunStore<Item = E>> RunStore for Quota<S> as QuotaStore {
             Err(f) => Err(crossed(f)),
         }
     }
-}
 
-impl<E: Entry, S: RunStore<Item = E>> Quota<S> {
     // Whether the limit refuses a run of n entries one more: where it is reached, and n is in the list.
     // The count below is asked for what comes with it, that the store's longest run is that of its entries.
     fn at_limit(&mut self, n: u32) -> bool
         requires { ⌜ Sound-of S·RunStore (now self) ⌝ }
-        ensures asked { λ _. ⌜ Asked (Sound-of S·RunStore) (State-of S·RunStore) (Memory-of S·RunStore) (now (self .entry)) (now (self .exit)) ⌝ }
+        ensures asked { λ _. ⌜ Asks S·RunStore (now (self .entry)) (now (self .exit)) ⌝ }
         ensures tied { λ _. ⌜ S·RunStore .longest ≡ E·Entry .longest ⌝ }
         ensures answer { λ r. ⌜ r ≡ (reached S·RunStore (now (self .entry)) && ltb n (S·RunStore .longest)) ⌝ }
     {
@@ -211,7 +279,7 @@ impl<E: Entry, S: RunStore<Item = E>> Quota<S> {
     // its range, the store below is asked and says so.
     fn stops_insert(&mut self, at: E::Index, slot: Slot) -> bool
         requires { ⌜ Sound-of S·RunStore (now self) ⌝ }
-        ensures asked { λ _. ⌜ Asked (Sound-of S·RunStore) (State-of S·RunStore) (Memory-of S·RunStore) (now (self .entry)) (now (self .exit)) ⌝ }
+        ensures asked { λ _. ⌜ Asks S·RunStore (now (self .entry)) (now (self .exit)) ⌝ }
         ensures tied { λ _. ⌜ S·RunStore .longest ≡ E·Entry .longest ⌝ }
         ensures answer { λ r. ⌜ r ≡ stops S·RunStore (now (self .entry)) (S·RunStore .longest) (E·Entry .number at) (slot .number) ⌝ }
     {

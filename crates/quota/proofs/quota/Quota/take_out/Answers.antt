@@ -6,7 +6,7 @@ use Rattle.quota_model.proofs.Grants.{remove-passed}
 use Rattle.quota_model.proofs.Totals.{counted}
 use Rattle.quota.specs.Layer.{State-of, Memory-of, Sound-of}
 use Rattle.quota.proofs.Layers.{unasked, handed-refused, handed-accepted}
-use Rattle.quota.proofs.quota.QuotaStore.remove.Needs as need
+use Rattle.quota.proofs.quota.Quota.take_out.Needs as need
 
 pub lose-requires : need.lose-requires
 lose-requires g c κs =

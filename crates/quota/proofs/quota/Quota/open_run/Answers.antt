@@ -4,7 +4,7 @@ use Rattle.runs.specs.Runs.{grows}
 use Rattle.quota_model.specs.Quotas.{capped}
 use Rattle.quota_model.proofs.Totals.{counted}
 use Rattle.quota.proofs.Layers.{stopped, limit-grows, handed-refused, handed-accepted, fits}
-use Rattle.quota.proofs.quota.QuotaStore.open.Needs as need
+use Rattle.quota.proofs.quota.Quota.open_run.Needs as need
 
 pub returns-then-at-limit : need.returns-then-at-limit
 returns-then-at-limit g c =

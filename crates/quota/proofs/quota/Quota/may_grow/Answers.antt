@@ -3,7 +3,7 @@ use Rattle.std.specs.declared.option.Option.the-variants.{Some}
 use Rattle.runs.specs.Runs.{grows}
 use Rattle.quota_model.specs.Quotas.{passed}
 use Rattle.quota.proofs.Layers.{asked-twice, asked-up, limit-grows}
-use Rattle.quota.proofs.quota.QuotaStore.grow.Needs as need
+use Rattle.quota.proofs.quota.Quota.may_grow.Needs as need
 
 pub returns-then-at-limit : need.returns-then-at-limit
 returns-then-at-limit g c =

@@ -4,7 +4,7 @@ use Rattle.quota_model.specs.Quotas.{passed}
 use Rattle.quota_model.proofs.Grants.{shrinks-passed}
 use Rattle.quota.specs.Layer.{State-of}
 use Rattle.quota.proofs.Layers.{asked-up}
-use Rattle.quota.proofs.quota.QuotaStore.shrink.Needs as need
+use Rattle.quota.proofs.quota.Quota.may_shrink.Needs as need
 
 pub returns-in-Ok : need.returns-in-Ok
 returns-in-Ok g c =

@@ -1,7 +1,7 @@
 use mathlib.Core.Path.{_≡_, refl, sym, ap, _∙_}
 use Rattle.quota_model.proofs.Totals.{counted}
 use Rattle.quota.proofs.Layers.{accepted-up}
-use Rattle.quota.proofs.quota.QuotaStore.exchange.Needs as need
+use Rattle.quota.proofs.quota.Quota.replace.Needs as need
 
 pub returns-in-Ok : need.returns-in-Ok
 returns-in-Ok g c =

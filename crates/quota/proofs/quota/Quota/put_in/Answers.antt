@@ -4,7 +4,7 @@ use Rattle.runs.specs.Runs.{no-insert}
 use Rattle.quota_model.specs.Quotas.{capped}
 use Rattle.quota_model.proofs.Totals.{counted}
 use Rattle.quota.proofs.Layers.{stopped, limit-insert, handed-refused, handed-accepted, fits}
-use Rattle.quota.proofs.quota.QuotaStore.insert.Needs as need
+use Rattle.quota.proofs.quota.Quota.put_in.Needs as need
 
 pub returns-then-stops-insert : need.returns-then-stops-insert
 returns-then-stops-insert g c =
