@@ -1,9 +1,16 @@
 // Tests of the run stores at their boundaries, for each kind of entry. Every test is proved, and then run.
 ghost use Prim.Native.Nat.{_≤_};
 use bitmap::Slot;
+use flat::flat::Flat;
+use flat::flat::FlatStore;
+use quota::quota::Quota;
+use quota::quota::QuotaStore;
 use runs::entry::Entry;
+use runs::entry::PlainEntry;
 use runs::lent::lent;
 use runs::store::RunStore;
+use store_clients::there_and_back;
+use store_clients::under_two_limits;
 use tiered::Tiered;
 use tiered::store::TieredStore;
 
@@ -42,7 +49,6 @@ mod tests {
     use super::*;
     use runs::entry::NodeEntry;
     use runs::entry::NodeRow;
-    use runs::entry::PlainEntry;
     use runs::entry::StreamEntry;
     use runs::entry::StreamRecord;
     use std::test::*;
@@ -105,6 +111,42 @@ mod tests {
             check_eq(filled(&mut cells, &mut ledger, n, row), most)?;
         }
         Ok(())
+    }
+
+    // Two entries in and out again under a quota; false where a call is refused.
+    fn limited<S: RunStore<Item = u32> + Drop>(store: S, limit: u32) -> bool
+        requires { ⌜ S·RunStore .sound store ⌝ }
+    {
+        match Quota::start(store, limit) {
+            Ok(q) => {
+                let mut q = q;
+                there_and_back(&mut q, 1, 2)
+            }
+            Err(_) => false,
+        }
+    }
+
+    // The same under a quota over a quota.
+    fn twice_limited<S: RunStore<Item = u32> + Drop>(store: S, inner: u32, outer: u32) -> bool
+        requires { ⌜ S·RunStore .sound store ⌝ }
+    {
+        match under_two_limits(store, inner, outer, 1, 2) {
+            Ok((back, _)) => back,
+            Err(_) => false,
+        }
+    }
+
+    // One client, proved for every store, on four of them.
+    #[test]
+    fn two_entries_go_in_and_out() -> Result<(), Fail> {
+        let mut cells = [0u32; 31];
+        let mut ledger = [0u64; 31];
+        check(there_and_back(&mut Tiered::new(&mut cells, &mut ledger), 1, 2))?;
+        check(there_and_back(&mut Flat::new(&mut cells, &mut ledger), 1, 2))?;
+        check(limited(Tiered::new(&mut cells, &mut ledger), 2))?;
+        check(!limited(Tiered::new(&mut cells, &mut ledger), 1))?;
+        check(twice_limited(Flat::new(&mut cells, &mut ledger), 2, 2))?;
+        check(!twice_limited(Flat::new(&mut cells, &mut ledger), 1, 2))
     }
 
     #[test]
