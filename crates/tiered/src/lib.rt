@@ -218,7 +218,8 @@ impl<'a, E: Entry> Tiered<'a, E> {
         ensures after { λ _. ⌜ State-of (now (self .exit)) ≡ ended (State-of (now (self .entry))) y at ⌝ }
         ensures cells { λ _. ⌜ now (now (self .exit) .cells) ≡ now (now (self .entry) .cells) ⌝ }
     {
-        self.ledger[at as usize] = 64 * (self.heads[y as usize] as u64);
+        let before = self.heads[y as usize];
+        self.ledger[at as usize] = 64 * (before as u64);
         self.heads[y as usize] = at + 1;
         self.runs -= 1;
     }
