@@ -1,0 +1,15 @@
+pub mod Bits
+pub mod Nths
+pub mod Paths
+pub mod Entries
+pub mod Finds
+pub mod Holding
+pub mod Steps
+pub mod Found
+pub mod Moves
+pub mod Rewriting
+pub mod Values
+pub mod Children
+pub mod Whole
+pub mod States
+pub mod Lawfully

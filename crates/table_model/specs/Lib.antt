@@ -1,0 +1,5 @@
+pub mod Tree
+pub mod Table
+pub mod States
+pub mod Laws
+pub mod Calls
