@@ -3,7 +3,7 @@ use mathlib.Core.Path.{_≡_}
 use Prim.Native.Nat.{ℕ}
 use Rattle.runs.specs.Runs.{Model, Lawful}
 use Rattle.runs.specs.declared.entry.NodeRow.{NodeRow}
-use Rattle.table_model.specs.Calls.{Calls}
+use Rattle.table_model.specs.Stands.{Calls}
 use Rattle.table_model.proofs.Whole.{start-law}
 use Rattle.table_model.proofs.States.{put-states, take-states, swap-states, add-states, plant-states, drop-states}
 

@@ -13,3 +13,7 @@ pub mod Children
 pub mod Whole
 pub mod States
 pub mod Lawfully
+pub mod Reading
+pub mod Nodes
+pub mod Descent
+pub mod Judging

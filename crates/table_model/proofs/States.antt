@@ -98,8 +98,8 @@ module _ {E S : Type 0} (m : Model E S) (longest : ℕ) (Valid : S → Type 0) (
       ∙ cond-false (ltb (length (m .live s i)) k) (Some (refusal 21 [])) (grows m s (length (m .live s i))) (le-ltb (length (m .live s i)) k (omega arith))
       ∙ ap (grows m s) e ∙ y
 
-  pub exchange-yes : (s : S) (i k : ℕ) → k < length (m .live s i) → no-entry m s i k ≡ None
-  exchange-yes s i k l =
+  pub entry-yes : (s : S) (i k : ℕ) → k < length (m .live s i) → no-entry m s i k ≡ None
+  entry-yes s i k l =
       cond-false (eqb (length (m .live s i)) 0) (Some (refusal 20 [])) (cond (ltb k (length (m .live s i))) None (Some (refusal 21 []))) (ne-eqb (length (m .live s i)) 0 (λ q. omega arith))
       ∙ cond-true (ltb k (length (m .live s i))) None (Some (refusal 21 [])) (lt-ltb k (length (m .live s i)) l)
 
@@ -134,7 +134,7 @@ module _ {N : Type 0} (mn : Model NodeRow N) (longest : ℕ) (VN : N → Type 0)
       subst (λ (x : Place). VN (written-nodes mn n x r2) × Written nodes root (mn .live n) p r2 (mn .live (written-nodes mn n x r2)) (written-root root x r2)) (sym pe) (v, at-root e refl refl)
   written-law nodes root p pl r r2 n v (under q c s e f k pe) keep =
       let inside : rank (s .«child_bitmap») c < length (mn .live n (s .«children_index»)) = subst (λ (xs : List NodeRow). rank (s .«child_bitmap») c < length xs) (sym (keep q c s e f k)) (nth-some-in (nodes (s .«children_index»)) (rank (s .«child_bitmap») c) r (entry-nth (nodes (s .«children_index»)) (s .«child_bitmap») c r k)) in
-      let o = ln .exchanging n (s .«children_index») (rank (s .«child_bitmap») c) r2 v (exchange-yes mn longest VN ln n (s .«children_index») (rank (s .«child_bitmap») c) inside) in
+      let o = ln .exchanging n (s .«children_index») (rank (s .«child_bitmap») c) r2 v (entry-yes mn longest VN ln n (s .«children_index») (rank (s .«child_bitmap») c) inside) in
       subst (λ (x : Place). VN (written-nodes mn n x r2) × Written nodes root (mn .live n) p r2 (mn .live (written-nodes mn n x r2)) (written-root root x r2)) (sym pe) (o .0, in-run q c s e f refl (o .1))
 
 -- the parent's run stands while p's own child run moves
@@ -206,7 +206,7 @@ module _ {V N S : Type 0} (mn : Model NodeRow N) (mv : Model V S) (kn kv : ℕ) 
       let full = a .values .full p r f in
       let within : b < 31 = set-within (r .«data_bitmap») b 31 (a .values .fits p r f) here in
       let inside : rank (r .«data_bitmap») b < length (mv .live (t .vals) (r .«data_index»)) = omega (arith, rank-strict (r .«data_bitmap») b 31 here within) in
-      let g = lv .exchanging (t .vals) (r .«data_index») (rank (r .«data_bitmap») b) v (sound .vals-valid) (exchange-yes mv kv VS lv (t .vals) (r .«data_index») (rank (r .«data_bitmap») b) inside) in
+      let g = lv .exchanging (t .vals) (r .«data_index») (rank (r .«data_bitmap») b) v (sound .vals-valid) (entry-yes mv kv VS lv (t .vals) (r .«data_index») (rank (r .«data_bitmap») b) inside) in
       let out = swap-law (mn .live (t .nodes)) (mv .live (t .vals)) (mv .live (swap-at mn mv t r b v .vals)) (t .root) p b v a (record { r = r; found = f; here = here; exchanged = g .1 }) in
       (record { nodes-valid = sound .nodes-valid; vals-valid = g .0; agrees = out .0 }, out .1)
 

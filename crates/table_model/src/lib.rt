@@ -1,5 +1,5 @@
 // What the calls on a table make of the plain tree that it means, over any two lawful stores.
-ghost use Rattle.table_model.specs.Calls.{Calls};
+ghost use Rattle.table_model.specs.Stands.{Calls};
 ghost use Rattle.table_model.specs.Laws.{Show-law, Plain-law, Stop-law};
 use runs::entry::Entry;
 use runs::entry::NodeEntry;
