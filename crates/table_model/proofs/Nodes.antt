@@ -11,7 +11,7 @@ use Rattle.std.proofs.shelf.Tests.{cond-true, cond-false, eqb-true, eqb-false, 
 use Rattle.std.specs.declared.option.Option.{Option}
 use Rattle.std.specs.declared.option.Option.the-variants.{Some, None}
 use Rattle.bitmap.specs.Ranks.{bit, rank, isSet}
-use Rattle.bitmap.proofs.Ranks.{cases-bit, rank-of-zero, none-set, rank-up, rank-strict, rank-beyond, set-within, set-bit}
+use Rattle.bitmap.proofs.Ranks.{cases-bit, rank-of-zero, none-set, rank-up, rank-strict, rank-beyond, set-within, set-bit, clear-bit}
 use Rattle.runs.specs.Lists.{nth}
 use Rattle.runs.specs.Runs.{Model, Lawful, grows, no-insert}
 use Rattle.runs.specs.declared.entry.NodeRow.{NodeRow}
@@ -22,7 +22,7 @@ use Rattle.table_model.specs.States.{Place, top, descend}
 use Rattle.table_model.specs.Judged.{no-growth, no-write}
 use Rattle.table_model.specs.Laws.{Shown}
 use Rattle.table_model.proofs.Nths.{nth-some-in}
-use Rattle.table_model.proofs.Entries.{entry-nth, entry-set}
+use Rattle.table_model.proofs.Entries.{entry-nth, entry-set, entry-clear}
 use Rattle.table_model.proofs.Finds.{find-nil, find-snoc}
 use Rattle.table_model.proofs.Whole.{show-law}
 use Rattle.table_model.proofs.States.{Placed, first, under, placed, descend-find, insert-yes, entry-yes}
@@ -108,7 +108,7 @@ module _ {V : Type 0} (nodes : ℕ → List NodeRow) (vals : ℕ → List V) (ro
       omega (arith, a .values .full p r found, rank-strict (r .«data_bitmap») b 31 one small)
 
   -- the child at a set bit is what the store has at the rank
-  pub child-at : (b : ℕ) → isSet (r .«child_bitmap») b ≡ true → child nodes r b ≡ nth (nodes (r .«children_index»)) (rank (r .«child_bitmap») b)
+  child-at : (b : ℕ) → isSet (r .«child_bitmap») b ≡ true → child nodes r b ≡ nth (nodes (r .«children_index»)) (rank (r .«child_bitmap») b)
   child-at b e = entry-set (nodes (r .«children_index»)) (r .«child_bitmap») b (set-bit (r .«child_bitmap») b e)
 
   pub child-inside : (b : ℕ) → isSet (r .«child_bitmap») b ≡ true → rank (r .«child_bitmap») b < length (nodes (r .«children_index»))
@@ -117,8 +117,19 @@ module _ {V : Type 0} (nodes : ℕ → List NodeRow) (vals : ℕ → List V) (ro
       let small : b < 32 = set-within (r .«child_bitmap») b 32 (a .children .fits p r found) one in
       omega (arith, a .children .full p r found, rank-strict (r .«child_bitmap») b 32 one small)
 
+  -- what is read there is the child, whose row passes the check
+  pub child-read : (b : ℕ) (x : NodeRow) → isSet (r .«child_bitmap») b ≡ true → nth (nodes (r .«children_index»)) (rank (r .«child_bitmap») b) ≡ Some x → child nodes r b ≡ Some x
+  child-read b x e y = child-at b e ∙ y
+
   pub child-found : (b : ℕ) (x : NodeRow) → child nodes r b ≡ Some x → find nodes root (p ++ b ∷ []) ≡ Some x
   child-found b x e = find-snoc nodes root p b ∙ ap (λ (o : Option NodeRow). then o (λ (s : NodeRow). child nodes s b)) found ∙ e
+
+  pub child-passes : (b : ℕ) (x : NodeRow) → isSet (r .«child_bitmap») b ≡ true → nth (nodes (r .«children_index»)) (rank (r .«child_bitmap») b) ≡ Some x → Passes x
+  child-passes b x e y = row-passes nodes vals root a (p ++ b ∷ []) x (child-found b x (child-read b x e y))
+
+-- no child at a clear bit
+pub child-clear : (nodes : ℕ → List NodeRow) (r : NodeRow) (b : ℕ) → isSet (r .«child_bitmap») b ≡ false → child nodes r b ≡ None
+child-clear nodes r b e = entry-clear (nodes (r .«children_index»)) (r .«child_bitmap») b (clear-bit (r .«child_bitmap») b e)
 
 -- a yes of grow is a yes to one entry more
 module _ {E S : Type 0} (m : Model E S) (longest : ℕ) (Valid : S → Type 0) (law : Lawful m longest Valid) where
