@@ -44,3 +44,10 @@ module _ {E Ix N V : Type 0} (n : Ghosts N NodeRow NodeIndex) (v : Ghosts V E Ix
       let w : Table N V = record { nodes = u .nodes; values = x; root = u .root } in
       let same : states n v w ≡ states n v u = ap (λ (y : v .State). built (n .state (u .nodes)) y (row-of (u .root))) (k .same) in
       (sound-on u w s (s .nodes) (k .kept) same, record { states = same ∙ un .states; nodes = un .nodes; values = k .untouched ∙ un .values })
+
+  -- what holds of the states after holds of the states before
+  pub both-times : (t u : Table N V) → Untouched n v t u → (P : States (n .State) (v .State) → Type 0) → P (states n v u) → P (states n v t) × P (states n v u)
+  both-times t u un P h = (subst P (un .states) h, h)
+
+  pub both-later : (t u w : Table N V) → Untouched n v t u → Untouched n v t w → (P : States (n .State) (v .State) → Type 0) → P (states n v u) → P (states n v t) × P (states n v w)
+  both-later t u w a b P h = (subst P (a .states) h, subst P (a .states ∙ sym (b .states)) h)

@@ -16,7 +16,6 @@ use Rattle.table_model.specs.Table.{bare-row, find}
 use Rattle.table_model.specs.Laws.{Shown}
 use Rattle.table_model.specs.States.{Table as States}
 use Rattle.table_model.specs.Calls.{show-no, get-no, swap-to, put-no, put-to, take-no, take-to, add-no, add-to, plant-no, plant-to, drop-no, drop-to}
-use Rattle.nodes.specs.Records.{row-of}
 use Rattle.nodes.specs.Told.{told-fault}
 use Rattle.nodes.specs.declared.fault.Fault.{Fault}
 use Rattle.table.specs.declared.Table.{Table}
@@ -42,12 +41,12 @@ module _ {E Ix N V : Type 0} (n : Ghosts N NodeRow NodeIndex) (v : Ghosts V E Ix
   Gets t p b = Asked t (get-no (n .model) (v .model) (states n v t) p b) (λ x. tree n v t .val p b ≡ Some x)
 
   -- show: a node's record; its bitmaps are the tree's, its indexes name the node's two runs
-  pub record Displayed (t : Table N V) (p : Path) (r : NodeRow) : Type 0 where
-    pub found : find (n .model .live (n .state (t .nodes))) (row-of (t .root)) p ≡ Some r
-    pub shown : Shown (n .model .live (n .state (t .nodes))) (v .model .live (v .state (t .values))) (row-of (t .root)) p r
+  pub record Displayed (t : States (n .State) (v .State)) (p : Path) (r : NodeRow) : Type 0 where
+    pub found : find (n .model .live (t .nodes)) (t .root) p ≡ Some r
+    pub shown : Shown (n .model .live (t .nodes)) (v .model .live (t .vals)) (t .root) p r
 
   abbrev pub Shows : Table N V → Path → Result NodeRow Fault → Table N V → Type 0
-  Shows t p = Asked t (show-no (n .model) (v .model) (states n v t) p) (Displayed t p)
+  Shows t p = Asked t (show-no (n .model) (v .model) (states n v t) p) (Displayed (states n v t) p)
 
   -- swap: the value x for the one that is there, which is handed back
   abbrev pub Swaps : Table N V → Path → ℕ → E → Result E Fault → Table N V → Type 0

@@ -29,12 +29,12 @@ abbrev pub At : (Place → NodeRow → Type 0) → Spot → Type 0
 At P s = P (place-of (s .place)) (row-of (s .record))
 
 module _ {E Ix N V : Type 0} (n : Ghosts N NodeRow NodeIndex) (v : Ghosts V E Ix) where
-  -- A call is judged before anything is written: it is refused as `why` says, or P holds of the states as they are, with the place and the record that it
-  -- answers; nothing is changed.
+  -- A call is judged before anything is written: it is refused as `why` says, or P holds of the states, before and after alike, with the place and the
+  -- record that it answers; nothing is changed.
   pub record Judged (t : Table N V) (why : Grant) (P : States (n .State) (v .State) → Place → NodeRow → Type 0) (r : Result Spot Fault) (after : Table N V) : Type 0 where
     pub sound : Sound n v after
     pub untouched : Untouched n v t after
-    pub answer : Cases r (At (P (states n v after))) (λ f. why ≡ Some (told-fault f))
+    pub answer : Cases r (λ s. At (P (states n v t)) s × At (P (states n v after)) s) (λ f. why ≡ Some (told-fault f))
 
   -- what holds of every table that is as t is
   abbrev pub Since : (Table N V → Type 0) → Table N V → Type 0

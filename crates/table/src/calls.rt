@@ -1,92 +1,100 @@
-// The calls on a table: each is judged first, and then done.
-ghost use mathlib.Core.Path.{_≡_};
-ghost use Prim.Native.Nat.{_<_};
-ghost use Rattle.std.specs.Results.{Cases};
-ghost use Rattle.std.specs.Options.{Cases as BySome};
-ghost use Rattle.std.specs.declared.option.Option.the-variants.{Some, None};
-ghost use Rattle.std.specs.declared.result.Result.the-variants.{Ok};
-ghost use Rattle.bitmap.specs.Ranks.{rank};
-ghost use Rattle.table_model.specs.Tree.{Path};
-ghost use Rattle.table_model.specs.Table.{Passes, child};
-ghost use Rattle.table_model.specs.Refusals.{bad-path, no-node, no-place};
-ghost use Rattle.table_model.specs.States.{slot, written-nodes, written-root};
-ghost use Rattle.table_model.specs.Calls.{way, show-no, get-no};
-ghost use Rattle.table_model.specs.Judged.{no-write, Reached, May-get};
-ghost use Rattle.nodes.specs.Records.{row-of};
-ghost use Rattle.nodes.specs.Told.{told-fault};
-ghost use Rattle.table.specs.Meaning.{states, tree, Sound, Untouched};
-ghost use Rattle.table.specs.Promises.{Gets, Shows};
-ghost use Rattle.table.specs.Steps.{place-of, At, Judged, Since};
+// The eight calls on a table: each is judged first, and then done.
+ghost use Rattle.table.specs.Meaning.{Sound};
+ghost use Rattle.table.specs.Promises.{Gets, Shows, Swaps, Puts, Takes, Adds, Plants, Drops};
 use crate::Table;
-use crate::run::entry_at;
-use crate::spot::Spot;
-use crate::spot::Where;
 use bitmap::Bit;
-use bitmap::compute_slot;
-use bitmap::is_set;
-use nodes::check::record_of;
 use nodes::fault::Fault;
-use nodes::fault::FaultFromPath;
-use nodes::path::read_path;
-use nodes::record::NodeRecord;
 use runs::entry::Entry;
 use runs::entry::NodeEntry;
 use runs::entry::NodeRow;
-use runs::index::NodeIndex;
 use runs::store::RunStore;
 
 impl<E: Entry, N: RunStore<Item = NodeRow>, V: RunStore<Item = E>> Table<N, V> {
-    // The child of a node at a bit, if there is one.
-    fn child(&mut self, spot: Spot, bit: Bit) -> Option<Spot>
-        requires sound { ⌜ Sound N·RunStore V·RunStore (now self) ⌝ }
-        requires node { ⌜ ((p : Path) × (way (N·RunStore .model) (V·RunStore .model) (states N·RunStore V·RunStore (now self)) p ≡ Some (place-of (spot .place), row-of (spot .record)))) ⌝ }
-        ensures sound { λ _. ⌜ Sound N·RunStore V·RunStore (now (self .exit)) ⌝ }
-        ensures untouched { λ _. ⌜ Untouched N·RunStore V·RunStore (now (self .entry)) (now (self .exit)) ⌝ }
-        ensures answer { λ r. ⌜ BySome r
-            (child (N·RunStore .model .live (N·RunStore .state (now (self .entry) .nodes))) (row-of (spot .record)) (bit .number) ≡ None)
-            (At (λ pl x. (child (N·RunStore .model .live (N·RunStore .state (now (self .entry) .nodes))) (row-of (spot .record)) (bit .number) ≡ Some x)
-            × (pl ≡ slot (spot .record .«children_index» .number) (rank (spot .record .«child_bitmap») (bit .number))))) ⌝ }
+    // The value at a path and bit.
+    pub fn get(&mut self, path: &[u8], bit: Bit) -> Result<E, Fault>
+        requires { ⌜ Sound N·RunStore V·RunStore (now self) ⌝ }
+        ensures { λ r. ⌜ Gets N·RunStore V·RunStore (now (self .entry)) (now (path .entry)) (bit .number) r (now (self .exit)) ⌝ }
     {
-        let record = spot.record;
-        if !is_set(record.child_bitmap, bit) {
-            return None;
+        match self.may_get(path, bit) {
+            Ok(spot) => Ok(self.value_at(spot, bit)),
+            Err(f) => Err(f),
         }
-        let row = entry_at(
-            &mut self.nodes,
-            record.child_bitmap,
-            record.children_index.number,
-            bit,
-        );
-        let Some(child) = record_of(row) else { unreachable() };
-        Some(Spot {
-            place: Where::Entry(record.children_index, compute_slot(record.child_bitmap, bit)),
-            record: child,
-        })
     }
 
-    // The descent, along a path that has been read.
-    fn follow(&mut self, path: &[u8]) -> Result<Spot, Fault>
-        requires sound { ⌜ Sound N·RunStore V·RunStore (now self) ⌝ }
-        requires reads { ⌜ bad-path (now path) ≡ None ⌝ }
-        ensures { λ r. ⌜ Judged N·RunStore V·RunStore (now (self .entry))
-            (no-node (tree N·RunStore V·RunStore (now (self .entry))) (now (path .entry)))
-            (λ st pl x. way (N·RunStore .model) (V·RunStore .model) st (now (path .entry)) ≡ Some (pl, x))
-            r (now (self .exit)) ⌝ }
+    // A value at a clear bit.
+    pub fn put(&mut self, path: &[u8], bit: Bit, value: E) -> Result<(), Fault>
+        requires { ⌜ Sound N·RunStore V·RunStore (now self) ⌝ }
+        ensures { λ r. ⌜ Puts N·RunStore V·RunStore (now (self .entry)) (now (path .entry)) (bit .number) value r (now (self .exit)) ⌝ }
     {
-        let mut spot = Spot {
-            place: Where::Root,
-            record: self.root,
-        };
-        for (i, b) in path.iter().enumerate() {
-            match self.child(spot, Bit { number: *b as u32 }) {
-                Some(child) => {
-                    spot = child;
-                }
-                None => {
-                    return Err(Fault::NoNode(i as u32));
-                }
-            }
+        match self.may_put(path, bit) {
+            Ok(spot) => Ok(self.put_at(spot, bit, value)),
+            Err(f) => Err(f),
         }
-        Ok(spot)
+    }
+
+    // Another value for the one at a set bit, which is handed back.
+    pub fn swap(&mut self, path: &[u8], bit: Bit, value: E) -> Result<E, Fault>
+        requires { ⌜ Sound N·RunStore V·RunStore (now self) ⌝ }
+        ensures { λ r. ⌜ Swaps N·RunStore V·RunStore (now (self .entry)) (now (path .entry)) (bit .number) value r (now (self .exit)) ⌝ }
+    {
+        match self.may_get(path, bit) {
+            Ok(spot) => Ok(self.swap_at(spot, bit, value)),
+            Err(f) => Err(f),
+        }
+    }
+
+    // The value at a set bit is taken out.
+    pub fn take(&mut self, path: &[u8], bit: Bit) -> Result<E, Fault>
+        requires { ⌜ Sound N·RunStore V·RunStore (now self) ⌝ }
+        ensures { λ r. ⌜ Takes N·RunStore V·RunStore (now (self .entry)) (now (path .entry)) (bit .number) r (now (self .exit)) ⌝ }
+    {
+        match self.may_take(path, bit) {
+            Ok(spot) => Ok(self.take_at(spot, bit)),
+            Err(f) => Err(f),
+        }
+    }
+
+    // A bare child at a clear child bit.
+    pub fn add(&mut self, path: &[u8], bit: Bit) -> Result<(), Fault>
+        requires { ⌜ Sound N·RunStore V·RunStore (now self) ⌝ }
+        ensures { λ r. ⌜ Adds N·RunStore V·RunStore (now (self .entry)) (now (path .entry)) (bit .number) r (now (self .exit)) ⌝ }
+    {
+        match self.may_add(path, bit) {
+            Ok(spot) => Ok(self.add_at(spot, bit)),
+            Err(f) => Err(f),
+        }
+    }
+
+    // A child at a clear child bit, with a value at its data bit 0.
+    pub fn plant(&mut self, path: &[u8], bit: Bit, value: E) -> Result<(), Fault>
+        requires { ⌜ Sound N·RunStore V·RunStore (now self) ⌝ }
+        ensures { λ r. ⌜ Plants N·RunStore V·RunStore (now (self .entry)) (now (path .entry)) (bit .number) value r (now (self .exit)) ⌝ }
+    {
+        match self.may_plant(path, bit) {
+            Ok(spot) => Ok(self.plant_at(spot, bit, value)),
+            Err(f) => Err(f),
+        }
+    }
+
+    // A bare child goes.
+    pub fn drop(&mut self, path: &[u8], bit: Bit) -> Result<(), Fault>
+        requires { ⌜ Sound N·RunStore V·RunStore (now self) ⌝ }
+        ensures { λ r. ⌜ Drops N·RunStore V·RunStore (now (self .entry)) (now (path .entry)) (bit .number) r (now (self .exit)) ⌝ }
+    {
+        match self.may_drop(path, bit) {
+            Ok(spot) => Ok(self.drop_at(spot, bit)),
+            Err(f) => Err(f),
+        }
+    }
+
+    // A node's four fields.
+    pub fn show(&mut self, path: &[u8]) -> Result<NodeRow, Fault>
+        requires { ⌜ Sound N·RunStore V·RunStore (now self) ⌝ }
+        ensures { λ r. ⌜ Shows N·RunStore V·RunStore (now (self .entry)) (now (path .entry)) r (now (self .exit)) ⌝ }
+    {
+        match self.node(path) {
+            Ok(spot) => Ok(spot.record.row()),
+            Err(f) => Err(f),
+        }
     }
 }

@@ -1,7 +1,10 @@
 // A table over two run stores: a tree of bitmap nodes whose meaning is a plain tree.
+pub mod calls;
+mod descent;
+mod judge;
 pub mod run;
 pub mod spot;
-pub mod calls;
+mod steps;
 
 use nodes::record::NodeRecord;
 

@@ -17,7 +17,7 @@ use Rattle.table_model.specs.Refusals.{first, when, inside, bad-path, value-co
 use Rattle.table_model.specs.States.{Place, Table, treeIn}
 use Rattle.table_model.specs.Calls.{way, get-no, put-no, take-no, add-no, plant-no, drop-no}
 use Rattle.table_model.specs.Judged.{Reached, May-get, May-put, May-take, May-add, May-plant, May-drop}
-use Rattle.table_model.proofs.Nodes.{node-has, value-bit, child-bit, narrow, values-counted, children-counted, child-found, bare-is, bare-not}
+use Rattle.table_model.proofs.Nodes.{node-has, value-bit, child-bit, narrow, values-counted, children-counted, child-found, child-lost, bare-is, bare-not, bare-row-is}
 
 -- ---- refusals 1 to 4
 
@@ -58,9 +58,6 @@ module _ {V : Type 0} (t : Tree V) (p : Path) where
 -- ---- refusals 5 to 10
 
 module _ {V N S : Type 0} (mn : Model NodeRow N) (mv : Model V S) (t : Table N S) (a : Agrees (mn .live (t .nodes)) (mv .live (t .vals)) (t .root)) (p : Path) (b : ℕ) (pl : Place) (r : NodeRow) where
-  tree : Tree V
-  tree = treeIn mn mv t
-
   pub reached : (w : ℕ) → bad-path p ≡ None → b < w → way mn mv t p ≡ Some (pl, r) → Reached mn mv t p b w pl r
   reached w good small e = record { passed = place-there (treeIn mn mv t) p b w good small (node-has (mn .live (t .nodes)) (mv .live (t .vals)) (t .root) a p pl r e); small = small; way = e }
 
@@ -170,29 +167,34 @@ module _ {V N S : Type 0} (mn : Model NodeRow N) (mv : Model V S) (t : Table N S
     drop-after : Bool → Bool → ℕ → Grant
     drop-after h o k = first (when (not h) (refusal 7 [])) (first (when (not o) (refusal 8 [])) (inside 9 (shrinks mn (t .nodes) k)))
 
-    drop-asks : (h o : Bool) → isSet (r .«child_bitmap») b ≡ h → is-bare (treeIn mn mv t) (p ++ b ∷ []) ≡ o → drop-no mn mv t p b ≡ drop-after h o (rank (r .«child_bitmap») 32)
+    drop-asks : (h o : Bool) → treeIn mn mv t .has (p ++ b ∷ []) ≡ h → is-bare (treeIn mn mv t) (p ++ b ∷ []) ≡ o → drop-no mn mv t p b ≡ drop-after h o (rank (r .«child_bitmap») 32)
     unfolding drop-after
     drop-asks h o e l =
         ap (λ (g : Grant). first g (drop-after (treeIn mn mv t .has (p ++ b ∷ [])) (is-bare (treeIn mn mv t) (p ++ b ∷ [])) (child-count (treeIn mn mv t) p))) (at .passed)
         ∙ ap (drop-after (treeIn mn mv t .has (p ++ b ∷ [])) (is-bare (treeIn mn mv t) (p ++ b ∷ []))) children
-        ∙ ap (λ (x : Bool). drop-after x (is-bare (treeIn mn mv t) (p ++ b ∷ [])) (rank (r .«child_bitmap») 32)) (child-shown ∙ e)
+        ∙ ap (λ (x : Bool). drop-after x (is-bare (treeIn mn mv t) (p ++ b ∷ [])) (rank (r .«child_bitmap») 32)) e
         ∙ ap (λ (x : Bool). drop-after h x (rank (r .«child_bitmap») 32)) l
 
-    pub drop-missing : isSet (r .«child_bitmap») b ≡ false → drop-no mn mv t p b ≡ Some (refusal 7 [])
+    pub drop-missing : child (mn .live (t .nodes)) r b ≡ None → drop-no mn mv t p b ≡ Some (refusal 7 [])
     unfolding drop-after
-    drop-missing e = drop-asks false (is-bare (treeIn mn mv t) (p ++ b ∷ [])) e refl
+    drop-missing e = drop-asks false (is-bare (treeIn mn mv t) (p ++ b ∷ [])) (child-lost (mn .live (t .nodes)) (mv .live (t .vals)) (t .root) a p pl r (at .way) b e) refl
 
-    module _ (e : isSet (r .«child_bitmap») b ≡ true) (gone : NodeRow) (stood : child (mn .live (t .nodes)) r b ≡ Some gone) where
+    module _ (gone : NodeRow) (stood : child (mn .live (t .nodes)) r b ≡ Some gone) where
       there-is : find (mn .live (t .nodes)) (t .root) (p ++ b ∷ []) ≡ Some gone
       there-is = child-found (mn .live (t .nodes)) (mv .live (t .vals)) (t .root) a p pl r (at .way) b gone stood
 
       pub drop-full : ((gone .«data_bitmap» ≡ 0) × (gone .«child_bitmap» ≡ 0) → ⊥) → drop-no mn mv t p b ≡ Some (refusal 8 [])
       unfolding drop-after
-      drop-full f = drop-asks true false e (bare-not (mn .live (t .nodes)) (mv .live (t .vals)) (t .root) a (p ++ b ∷ []) gone there-is f)
+      drop-full f = drop-asks true false (ap isSome there-is) (bare-not (mn .live (t .nodes)) (mv .live (t .vals)) (t .root) a (p ++ b ∷ []) gone there-is f)
 
       pub drop-bare : gone .«data_bitmap» ≡ 0 → gone .«child_bitmap» ≡ 0 → drop-no mn mv t p b ≡ inside 9 (shrinks mn (t .nodes) (rank (r .«child_bitmap») 32))
       unfolding drop-after
-      drop-bare x y = drop-asks true true e (bare-is (mn .live (t .nodes)) (mv .live (t .vals)) (t .root) a (p ++ b ∷ []) gone there-is x y)
+      drop-bare x y = drop-asks true true (ap isSome there-is) (bare-is (mn .live (t .nodes)) (mv .live (t .vals)) (t .root) a (p ++ b ∷ []) gone there-is x y)
 
       pub drop-may : gone .«data_bitmap» ≡ 0 → gone .«child_bitmap» ≡ 0 → shrinks mn (t .nodes) (rank (r .«child_bitmap») 32) ≡ None → May-drop mn mv t p b pl r
-      drop-may x y z = record { passed = drop-bare x y ∙ ap (inside 9) z; at = at; gone = gone; stood = stood; no-value = x; no-child = y; granted = z }
+      drop-may x y z = record {
+        passed = drop-bare x y ∙ ap (inside 9) z;
+        at = at;
+        stood = stood ∙ ap (λ (q : NodeRow). Some q) (bare-row-is (mn .live (t .nodes)) (mv .live (t .vals)) (t .root) a (p ++ b ∷ []) gone there-is x y);
+        granted = z;
+      }

@@ -17,3 +17,5 @@ pub mod Reading
 pub mod Nodes
 pub mod Descent
 pub mod Judging
+pub mod Doing
+pub mod Written

@@ -16,7 +16,7 @@ use Rattle.runs.specs.Lists.{nth}
 use Rattle.runs.specs.Runs.{Model, Lawful, grows, no-insert}
 use Rattle.runs.specs.declared.entry.NodeRow.{NodeRow}
 use Rattle.table_model.specs.Tree.{Path}
-use Rattle.table_model.specs.Table.{then, isSome, child, find, treeOf, Agrees, Passes}
+use Rattle.table_model.specs.Table.{bare-row, then, isSome, child, find, treeOf, Agrees, Passes}
 use Rattle.table_model.specs.Refusals.{passing, value-count, child-count, is-bare}
 use Rattle.table_model.specs.States.{Place, top, descend}
 use Rattle.table_model.specs.Judged.{no-growth, no-write}
@@ -24,6 +24,7 @@ use Rattle.table_model.specs.Laws.{Shown}
 use Rattle.table_model.proofs.Nths.{nth-some-in}
 use Rattle.table_model.proofs.Entries.{entry-nth, entry-set, entry-clear}
 use Rattle.table_model.proofs.Finds.{find-nil, find-snoc}
+use Rattle.table_model.proofs.Children.{row-same}
 use Rattle.table_model.proofs.Whole.{show-law}
 use Rattle.table_model.proofs.States.{Placed, first, under, placed, descend-find, insert-yes, entry-yes}
 
@@ -50,6 +51,10 @@ module _ {V : Type 0} (nodes : ℕ → List NodeRow) (vals : ℕ → List V) (ro
     data-tied = (a .values .none p r found, a .values .some p r found);
     children-tied = (a .children .none p r found, a .children .some p r found);
   }
+
+  -- and one with two zero bitmaps is the bare row
+  pub bare-row-is : r .«data_bitmap» ≡ 0 → r .«child_bitmap» ≡ 0 → r ≡ bare-row
+  bare-row-is x y = row-same r bare-row x y (a .values .none p r found x) (a .children .none p r found y)
 
   value-total : value-count (treeOf nodes vals root) p ≡ rank (r .«data_bitmap») 31
   value-total = passing-rank (λ b. isSome (treeOf nodes vals root .val p b)) (r .«data_bitmap») 31 (show-law nodes vals root p r a found .value-bit)
@@ -123,6 +128,9 @@ module _ {V : Type 0} (nodes : ℕ → List NodeRow) (vals : ℕ → List V) (ro
 
   pub child-found : (b : ℕ) (x : NodeRow) → child nodes r b ≡ Some x → find nodes root (p ++ b ∷ []) ≡ Some x
   child-found b x e = find-snoc nodes root p b ∙ ap (λ (o : Option NodeRow). then o (λ (s : NodeRow). child nodes s b)) found ∙ e
+
+  pub child-lost : (b : ℕ) → child nodes r b ≡ None → treeOf nodes vals root .has (p ++ b ∷ []) ≡ false
+  child-lost b e = ap isSome (find-snoc nodes root p b ∙ ap (λ (o : Option NodeRow). then o (λ (s : NodeRow). child nodes s b)) found ∙ e)
 
   pub child-passes : (b : ℕ) (x : NodeRow) → isSet (r .«child_bitmap») b ≡ true → nth (nodes (r .«children_index»)) (rank (r .«child_bitmap») b) ≡ Some x → Passes x
   child-passes b x e y = row-passes nodes vals root a (p ++ b ∷ []) x (child-found b x (child-read b x e y))

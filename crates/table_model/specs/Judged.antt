@@ -13,7 +13,7 @@ use Rattle.runs.specs.declared.entry.NodeRow.{NodeRow}
 use Rattle.table_model.specs.Tree.{Path}
 use Rattle.table_model.specs.Table.{bare-row, child}
 use Rattle.table_model.specs.Refusals.{no-path, no-place}
-use Rattle.table_model.specs.States.{Place, top, slot, Table, treeIn, grown}
+use Rattle.table_model.specs.States.{Place, top, slot, Table, treeIn}
 use Rattle.table_model.specs.Calls.{way, get-no, put-no, take-no, add-no, plant-no, drop-no}
 
 -- what a store says to one entry more in a node's run
@@ -24,10 +24,6 @@ no-growth m s bitmap i k = cond (eqb bitmap 0) (grows m s 0) (no-insert m s i k)
 abbrev pub no-write : {N : Type 0} → Model NodeRow N → N → Place → Grant
 no-write m n top = None
 no-write m n (slot i k) = no-entry m n i k
-
--- a node store and the children's run after a bare child at the bit b of the record r
-abbrev pub child-run : {N : Type 0} → Model NodeRow N → N → NodeRow → ℕ → N × ℕ
-child-run m n r b = grown m n (r .«child_bitmap») (r .«children_index») (rank (r .«child_bitmap») b) bare-row
 
 module _ {V N S : Type 0} (mn : Model NodeRow N) (mv : Model V S) where
   -- the record at the path p, and a bit below w
@@ -74,8 +70,5 @@ module _ {V N S : Type 0} (mn : Model NodeRow N) (mv : Model V S) where
   pub record May-drop (t : Table N S) (p : Path) (b : ℕ) (pl : Place) (r : NodeRow) : Type 0 where
     pub passed : drop-no mn mv t p b ≡ None
     pub at : Reached t p b 32 pl r
-    pub gone : NodeRow
-    pub stood : child (mn .live (t .nodes)) r b ≡ Some gone
-    pub no-value : gone .«data_bitmap» ≡ 0
-    pub no-child : gone .«child_bitmap» ≡ 0
+    pub stood : child (mn .live (t .nodes)) r b ≡ Some bare-row
     pub granted : shrinks mn (t .nodes) (rank (r .«child_bitmap») 32) ≡ None

@@ -39,6 +39,10 @@ pub record Table (N S : Type 0) : Type 0 where
 abbrev pub grown : {E S : Type 0} → Model E S → S → ℕ → ℕ → ℕ → E → S × ℕ
 grown m s bitmap i k e = cond (eqb bitmap 0) (m .opened s e, m .opened-at s e) (m .inserted s i k e, m .inserted-at s i k e)
 
+-- the children's run after a bare child at bit b
+abbrev pub child-run : {N : Type 0} → Model NodeRow N → N → NodeRow → ℕ → N × ℕ
+child-run m n r b = grown m n (r .«child_bitmap») (r .«children_index») (rank (r .«child_bitmap») b) bare-row
+
 abbrev pub written-nodes : {N : Type 0} → Model NodeRow N → N → Place → NodeRow → N
 written-nodes m n top r = n
 written-nodes m n (slot i k) r = m .exchanged n i k r
@@ -46,6 +50,10 @@ written-nodes m n (slot i k) r = m .exchanged n i k r
 abbrev pub written-root : NodeRow → Place → NodeRow → NodeRow
 written-root root top r = r
 written-root root (slot i k) r = root
+
+-- the record at a place is written anew
+abbrev pub rewritten : {N S : Type 0} → Model NodeRow N → Table N S → Place → NodeRow → Table N S
+rewritten m t at r = record { nodes = written-nodes m (t .nodes) at r; vals = t .vals; root = written-root (t .root) at r }
 
 -- what is done at the place found, or nothing
 abbrev pub there : {T : Type 0} → T → Option (Place × NodeRow) → (Place → NodeRow → T) → T
@@ -60,32 +68,31 @@ module _ {V N S : Type 0} (mn : Model NodeRow N) (mv : Model V S) where
   abbrev pub put-at : Table N S → Place → NodeRow → ℕ → V → Table N S
   put-at t at r b v =
       let g = grown mv (t .vals) (r .«data_bitmap») (r .«data_index») (rank (r .«data_bitmap») b) v in
-      let s = with-data r (with-bit (r .«data_bitmap») b) (g .1) in
-      record { nodes = written-nodes mn (t .nodes) at s; vals = g .0; root = written-root (t .root) at s }
+      rewritten mn (record { nodes = t .nodes; vals = g .0; root = t .root }) at (with-data r (with-bit (r .«data_bitmap») b) (g .1))
 
   abbrev pub take-at : Table N S → Place → NodeRow → ℕ → Table N S
   take-at t at r b =
-      let s = with-data r (without-bit (r .«data_bitmap») b) (mv .removed-at (t .vals) (r .«data_index») (rank (r .«data_bitmap») b)) in
-      record { nodes = written-nodes mn (t .nodes) at s; vals = mv .removed (t .vals) (r .«data_index») (rank (r .«data_bitmap») b); root = written-root (t .root) at s }
+      let k = rank (r .«data_bitmap») b in
+      rewritten mn (record { nodes = t .nodes; vals = mv .removed (t .vals) (r .«data_index») k; root = t .root }) at
+      (with-data r (without-bit (r .«data_bitmap») b) (mv .removed-at (t .vals) (r .«data_index») k))
 
   abbrev pub swap-at : Table N S → NodeRow → ℕ → V → Table N S
   swap-at t r b v = record { nodes = t .nodes; vals = mv .exchanged (t .vals) (r .«data_index») (rank (r .«data_bitmap») b) v; root = t .root }
 
   abbrev pub add-at : Table N S → Place → NodeRow → ℕ → Table N S
   add-at t at r b =
-      let g = grown mn (t .nodes) (r .«child_bitmap») (r .«children_index») (rank (r .«child_bitmap») b) bare-row in
-      let s = with-children r (with-bit (r .«child_bitmap») b) (g .1) in
-      record { nodes = written-nodes mn (g .0) at s; vals = t .vals; root = written-root (t .root) at s }
+      let g = child-run mn (t .nodes) r b in
+      rewritten mn (record { nodes = g .0; vals = t .vals; root = t .root }) at (with-children r (with-bit (r .«child_bitmap») b) (g .1))
 
   -- a child, and a value at its data bit 0: the child stands at the rank of b in the run that add leaves
   abbrev pub plant-at : Table N S → Place → NodeRow → ℕ → V → Table N S
-  plant-at t at r b v =
-      put-at (add-at t at r b) (slot (grown mn (t .nodes) (r .«child_bitmap») (r .«children_index») (rank (r .«child_bitmap») b) bare-row .1) (rank (with-bit (r .«child_bitmap») b) b)) bare-row 0 v
+  plant-at t at r b v = put-at (add-at t at r b) (slot (child-run mn (t .nodes) r b .1) (rank (with-bit (r .«child_bitmap») b) b)) bare-row 0 v
 
   abbrev pub drop-at : Table N S → Place → NodeRow → ℕ → Table N S
   drop-at t at r b =
-      let s = with-children r (without-bit (r .«child_bitmap») b) (mn .removed-at (t .nodes) (r .«children_index») (rank (r .«child_bitmap») b)) in
-      record { nodes = written-nodes mn (mn .removed (t .nodes) (r .«children_index») (rank (r .«child_bitmap») b)) at s; vals = t .vals; root = written-root (t .root) at s }
+      let k = rank (r .«child_bitmap») b in
+      rewritten mn (record { nodes = mn .removed (t .nodes) (r .«children_index») k; vals = t .vals; root = t .root }) at
+      (with-children r (without-bit (r .«child_bitmap») b) (mn .removed-at (t .nodes) (r .«children_index») k))
 
   -- both states can be, and the table agrees with them
   pub record Sound (VN : N → Type 0) (VS : S → Type 0) (t : Table N S) : Type 0 where

@@ -13,7 +13,7 @@ use Rattle.table_model.proofs.States.{descend-nil}
 use Rattle.nodes.specs.Records.{row-of}
 use Rattle.table.specs.Meaning.{states}
 use Rattle.table.specs.Steps.{place-of}
-use Rattle.table.proofs.Seen.{untouched-same, untouched-on}
+use Rattle.table.proofs.Seen.{untouched-same, untouched-on, both-times}
 use Rattle.table.proofs.Table.follow.Needs as need
 
 pub cast-result : need.cast-result
@@ -53,8 +53,13 @@ returns-in-None g c =
     }
 
 pub returns : need.returns
-returns g c = record {
-  sound = c .loop-i .inv .0;
-  untouched = c .loop-i .inv .1;
-  answer = ap (way (g .N·RunStore .model) (g .V·RunStore .model) (states (g .N·RunStore) (g .V·RunStore) (c .loop-i .self))) (sym (take-all (c .loop-i .i) (c .args .path .now) (omega arith))) ∙ c .loop-i .inv .2;
-}
+returns g c =
+    let n = g .N·RunStore in
+    let v = g .V·RunStore in
+    let there : way (n .model) (v .model) (states n v (c .loop-i .self)) (c .args .path .now) ≡ Some (place-of (c .loop-i .spot .place), row-of (c .loop-i .spot .record)) =
+    ap (way (n .model) (v .model) (states n v (c .loop-i .self))) (sym (take-all (c .loop-i .i) (c .args .path .now) (omega arith))) ∙ c .loop-i .inv .2 in
+    record {
+      sound = c .loop-i .inv .0;
+      untouched = c .loop-i .inv .1;
+      answer = both-times n v (c .args .self .now) (c .loop-i .self) (c .loop-i .inv .1) (λ st. way (n .model) (v .model) st (c .args .path .now) ≡ Some (place-of (c .loop-i .spot .place), row-of (c .loop-i .spot .record))) there;
+    }
