@@ -3,10 +3,11 @@ use mathlib.Core.Path.{_≡_}
 use mathlib.Core.Bool.{true, false}
 use mathlib.Core.List.{[], _∷_, _++_}
 use Prim.Native.Nat.{ℕ}
+use Rattle.std.specs.Results.{Cases}
 use Rattle.std.specs.declared.option.Option.the-variants.{Some, None}
 use Rattle.std.specs.declared.result.Result.{Result}
-use Rattle.runs.specs.Calls.{Tells, moved-on}
-use Rattle.runs.specs.Refusals.{Refusal, Grant}
+use Rattle.runs.specs.Calls.{Tells, moved-on, Asked as Left}
+use Rattle.runs.specs.Refusals.{Refusal, refusal, Grant}
 use Rattle.runs.specs.Runs.{count}
 use Rattle.runs.specs.declared.entry.NodeRow.{NodeRow}
 use Rattle.runs.specs.declared.index.NodeIndex.{NodeIndex}
@@ -18,7 +19,9 @@ use Rattle.table_model.specs.States.{Table as States}
 use Rattle.table_model.specs.Calls.{show-no, get-no, swap-to, put-no, put-to, take-no, take-to, add-no, add-to, plant-no, plant-to, drop-no, drop-to}
 use Rattle.nodes.specs.Told.{told-fault}
 use Rattle.nodes.specs.declared.fault.Fault.{Fault}
+use Rattle.table_model.specs.Refusals.{no-start}
 use Rattle.table.specs.declared.Table.{Table}
+use Rattle.table.specs.declared.NotStarted.{NotStarted}
 use Rattle.table.specs.Meaning.{states, tree, Sound, Untouched}
 
 module _ {E Ix N V : Type 0} (n : Ghosts N NodeRow NodeIndex) (v : Ghosts V E Ix) where
@@ -77,3 +80,26 @@ module _ {E Ix N V : Type 0} (n : Ghosts N NodeRow NodeIndex) (v : Ghosts V E Ix
   abbrev pub Drops : Table N V → Path → ℕ → Result (Unit {0}) Fault → Table N V → Type 0
   Drops t p b = Done t (drop-no (n .model) (v .model) (states n v t) p b) (λ _. Unit {0})
       (drop-to (n .model) (v .model) (states n v t) p b) (with-path (tree n v t) (p ++ b ∷ []) false)
+
+  -- start: a table of the empty path over the stores x and y
+  pub record Started (x : N) (y : V) (t : Table N V) : Type 0 where
+    pub sound : Sound n v t
+    pub states : states n v t ≡ record { nodes = n .state x; vals = v .state y; root = bare-row }
+    pub tree : tree n v t ≡ bare
+    pub nodes : n .memory (t .nodes) ≡ n .memory x
+    pub values : v .memory (t .values) ≡ v .memory y
+
+  -- refused, both come back as they were
+  pub record Returned (x : N) (y : V) (back : NotStarted N V) : Type 0 where
+    pub nodes : Left (n .sound) (n .state) (n .memory) x (back .nodes)
+    pub values : Left (v .sound) (v .state) (v .memory) y (back .values)
+
+  abbrev pub start-no : N → V → Grant
+  start-no x y = no-start (count (n .model .live (n .state x))) (count (v .model .live (v .state y)))
+
+  abbrev pub told-start : NotStarted N V → Refusal
+  told-start back = refusal 12 []
+
+  pub record Starts (x : N) (y : V) (r : Result (Table N V) (NotStarted N V)) : Type 0 where
+    pub answer : Tells told-start r (start-no x y) (Started x y)
+    pub back : Cases r (λ _. Unit {0}) (Returned x y)

@@ -1,11 +1,13 @@
 -- What the steps inside a table promise to one another; no call's contract leans on these.
 use mathlib.Core.Path.{_≡_}
+use mathlib.Core.Bool.{Bool, true, false}
+use mathlib.Core.List.{[]}
 use Prim.Native.Nat.{ℕ}
 use Rattle.std.specs.Results.{Cases}
-use Rattle.std.specs.declared.option.Option.the-variants.{Some}
+use Rattle.std.specs.declared.option.Option.the-variants.{Some, None}
 use Rattle.std.specs.declared.result.Result.{Result}
-use Rattle.std.specs.declared.result.Result.the-variants.{Ok}
-use Rattle.runs.specs.Refusals.{Grant}
+use Rattle.runs.specs.Calls.{Asked as Left}
+use Rattle.runs.specs.Refusals.{Grant, refusal}
 use Rattle.runs.specs.declared.entry.NodeRow.{NodeRow}
 use Rattle.runs.specs.declared.index.NodeIndex.{NodeIndex}
 use Rattle.runs.specs.declared.store.RunStore.{Ghosts}
@@ -19,6 +21,7 @@ use Rattle.table.specs.declared.spot.Spot.{Spot}
 use Rattle.table.specs.declared.spot.Where.{Where}
 use Rattle.table.specs.declared.spot.Where.the-variants.{Root, Entry}
 use Rattle.table.specs.Meaning.{states, Sound, Untouched}
+use Rattle.table.specs.Promises.{start-no}
 
 abbrev pub place-of : Where → Place
 place-of Root = top
@@ -39,3 +42,10 @@ module _ {E Ix N V : Type 0} (n : Ghosts N NodeRow NodeIndex) (v : Ghosts V E Ix
   -- what holds of every table that is as t is
   abbrev pub Since : (Table N V → Type 0) → Table N V → Type 0
   Since Q t = (before : Table N V) → Untouched n v before t → Q before
+
+  -- two stores, asked whether they have no live run, are as they were
+  pub record Quiet (x : N) (y : V) (r : Bool) (a : N) (b : V) : Type 0 where
+    pub nodes : Left (n .sound) (n .state) (n .memory) x a
+    pub values : Left (v .sound) (v .state) (v .memory) y b
+    pub refused : r ≡ false → start-no n v x y ≡ Some (refusal 12 [])
+    pub granted : r ≡ true → start-no n v a b ≡ None

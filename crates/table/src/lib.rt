@@ -4,6 +4,7 @@ mod descent;
 mod judge;
 pub mod run;
 pub mod spot;
+pub mod start;
 mod steps;
 
 use nodes::record::NodeRecord;
@@ -13,4 +14,10 @@ pub struct Table<N, V> {
     nodes: N,
     values: V,
     root: NodeRecord,
+}
+
+// 12: two stores that no table can start on, as they were.
+pub struct NotStarted<N, V> {
+    pub nodes: N,
+    pub values: V,
 }

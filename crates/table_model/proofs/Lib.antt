@@ -19,3 +19,4 @@ pub mod Descent
 pub mod Judging
 pub mod Doing
 pub mod Written
+pub mod Starting

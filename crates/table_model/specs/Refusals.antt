@@ -1,5 +1,5 @@
 -- What a table refuses: 1 to 8 judged on the plain tree alone, 9 and 10 on what a store grants. The first that holds is told.
-use mathlib.Core.Bool.{Bool, cond, not}
+use mathlib.Core.Bool.{Bool, cond, not, _&&_}
 use mathlib.Core.List.{[], _∷_, _++_}
 use Prim.Native.Nat.{ℕ, zero, suc, _+_}
 use lib.Dec.{leb, ltb, eqb}
@@ -81,3 +81,7 @@ module _ {V : Type 0} where
   -- 8: the child has a value or a child. The last argument is what the node store says to one child less
   abbrev pub no-drop : Tree V → Path → ℕ → Grant → Grant
   no-drop t p b g = first (no-place t p b 32) (first (when (not (t .has (p ++ b ∷ []))) (refusal 7 [])) (first (when (not (is-bare t (p ++ b ∷ []))) (refusal 8 [])) (inside 9 g)))
+
+-- 12: a table starts on stores with no live run; the arguments are how many each has
+abbrev pub no-start : ℕ → ℕ → Grant
+no-start nodes values = when (not (eqb nodes 0 && eqb values 0)) (refusal 12 [])
