@@ -13,9 +13,8 @@ use runs::store::RunStore;
 impl<'a, E: Entry> Tiered<'a, E> {
     // The claimed cells: they are the cells of all groups, of live runs and freed.
     pub fn claimed(&self) -> u32
-        requires { ⌜ Sound-of (E·Entry .longest) (now self) ⌝ }
         ensures state { λ r. ⌜ r ≡ State-of (now (self .entry)) .claimed ⌝ }
-        ensures sum { λ r. ⌜ r ≡ cells-of (E·Entry .longest) (groups (E·Entry .longest) (State-of (now (self .entry)))) ⌝ }
+        ensures sum { λ r. ⌜ (Sound-of (E·Entry .longest) (now (self .entry)) → r ≡ cells-of (E·Entry .longest) (groups (E·Entry .longest) (State-of (now (self .entry))))) ⌝ }
     {
         self.claimed
     }
