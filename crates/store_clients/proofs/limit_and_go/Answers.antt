@@ -1,4 +1,4 @@
-use mathlib.Core.Path.{_≡_, ap, _∙_}
+use mathlib.Core.Path.{ap, _∙_}
 use Rattle.quota_model.specs.Quotas.{State, capped}
 use Rattle.store_clients.specs.Trips.{whole}
 use Rattle.store_clients.proofs.limit_and_go.Needs as need
