@@ -3,7 +3,7 @@ use mathlib.Core.Path.{_≡_, refl, sym, ap, _∙_}
 use mathlib.Core.Logic.{inl, inr}
 use mathlib.Core.Bool.{Bool, true, false, cond, not, _&&_}
 use mathlib.Core.List.{List, [], _∷_, map}
-use Prim.Native.Nat.{ℕ, _+_, _-_, _<_, _≤_, min}
+use Prim.Native.Nat.{ℕ, _+_, _-_, _<_, _≤_}
 use native.Mathlib.Nat.{min-eq-left}
 use native.Mathlib.Omega.{arith}
 use lib.Dec.{eqb, leb, ltb}
@@ -12,7 +12,7 @@ use Rattle.std.proofs.shelf.Tests.{cases-eq, eqb-false, ne-eqb, ltb-true, ltb-f
 use Rattle.std.specs.declared.option.Option.the-variants.{Some, None}
 use Rattle.runs.specs.Refusals.{Refusal, Grant, refusal}
 use Rattle.runs.specs.Runs.{Model, total, grows, shrinks, no-entry, no-insert, no-remove}
-use Rattle.quota_model.specs.Quotas.{State, more, up, passed, full, over, capped}
+use Rattle.quota_model.specs.Quotas.{State, more, up, passed, full, capped}
 use Rattle.quota_model.specs.Laws.{Crossing}
 
 -- ---- layers

@@ -1,13 +1,12 @@
 -- A limit over a store that obeys the laws obeys them too.
-use mathlib.Core.Path.{_≡_, refl, sym, ap, _∙_}
-use mathlib.Core.Bool.{cond}
+use mathlib.Core.Path.{ap, _∙_}
 use mathlib.Core.List.{List, map}
 use Prim.Native.Nat.{ℕ}
 use lib.Dec.{eqb}
-use lib.ListN.{length, replicate, length-map}
+use lib.ListN.{length-map}
 use Rattle.runs.specs.Refusals.{Grant}
 use Rattle.runs.specs.Runs.{Model, Lawful, total}
-use Rattle.quota_model.specs.Quotas.{State, passed, full, capped}
+use Rattle.quota_model.specs.Quotas.{passed, capped}
 use Rattle.quota_model.proofs.Grants.{listed, length-listed, grows-below, insert-below, remove-below}
 use Rattle.quota_model.proofs.Totals.{counted}
 

@@ -1,15 +1,15 @@
 -- How many entries all runs have together, before and after each call.
-use mathlib.Core.Path.{_≡_, refl, sym, ap, _∙_}
+use mathlib.Core.Path.{_≡_, refl, ap}
 use mathlib.Core.Logic.{inl, inr}
-use mathlib.Core.List.{List, [], _∷_, _++_}
+use mathlib.Core.List.{List, [], _∷_}
 use Prim.Native.Nat.{ℕ, zero, suc, _+_, _*_, _<_, _≤_}
 use native.Mathlib.Nat.{mul-suc, mul-zero}
 use native.Mathlib.Omega.{arith}
-use lib.ListN.{length, take, drop, set, length-set, length-take, length-drop, length-append}
+use lib.ListN.{length, set, length-set, length-take, length-drop, length-append}
 use Rattle.std.proofs.shelf.Tests.{cases-lt}
 use Rattle.std.specs.declared.option.Option.the-variants.{None}
-use Rattle.runs.specs.Lists.{indexes, empty, at, with-new, without}
-use Rattle.runs.specs.Runs.{Model, Lawful, Moved, Removing, tally, one-run, total, grows, no-entry, no-insert, no-remove}
+use Rattle.runs.specs.Lists.{indexes, at, with-new, without}
+use Rattle.runs.specs.Runs.{Model, Lawful, Moved, tally, one-run, total, grows, no-entry, no-insert, no-remove}
 use Rattle.runs.specs.Runs.Removing.{ended, left}
 use Rattle.runs.proofs.Counts.{tally-put, put-same}
 use Rattle.quota_model.specs.Laws.{Counted}

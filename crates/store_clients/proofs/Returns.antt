@@ -1,8 +1,8 @@
 -- Where the calls of the trip lead, from the last one back to the first.
-use mathlib.Core.Path.{_≡_, refl, sym, ap, _∙_}
+use mathlib.Core.Path.{_≡_, refl, ap, _∙_}
 use mathlib.Core.Logic.{inl, inr}
 use mathlib.Core.Bool.{Bool, true, false, _&&_}
-use mathlib.Core.List.{List, [], _∷_}
+use mathlib.Core.List.{[], _∷_}
 use Prim.Native.Nat.{ℕ, _<_}
 use native.Mathlib.Omega.{arith}
 use lib.Dec.{eqb, ltb}
@@ -11,7 +11,7 @@ use Rattle.std.proofs.shelf.Tests.{lt-ltb, ne-eqb, cond-true, cond-false}
 use Rattle.std.specs.declared.option.Option.the-variants.{Some, None}
 use Rattle.runs.specs.Calls.{moved-on}
 use Rattle.runs.specs.Refusals.{Grant, Refusal}
-use Rattle.runs.specs.Runs.{Model, Lawful, grows, shrinks, no-insert, no-remove}
+use Rattle.runs.specs.Runs.{Model, Lawful, grows, no-insert, no-remove}
 use Rattle.store_clients.specs.Trips.{yes, taken, opened, opened-at, both, both-at, single, single-at, ends, whole, Removes, Left}
 use Rattle.store_clients.specs.Trips.Left.{same, over}
 use Rattle.store_clients.proofs.Steps.{Beside, run, ends-run, shortens, lengthens}

@@ -59,6 +59,20 @@ pub fn under_two_limits<E: Entry, S: RunStore<Item = E>>(
     ensures answer { λ r. ⌜ Says told-occupied r (no-start (count (S·RunStore .model .live (S·RunStore .state below)))) ⌝ }
     ensures trip { λ r. ⌜ Cases r (λ x. x .0 ≡ whole (capped (capped (S·RunStore .model))) record { limit = outer; below = record { limit = inner; below = S·RunStore .state below } } first second) (λ _. Unit {0}) ⌝ }
 {
+    limit_and_go(below, inner, outer, first, second)
+}
+
+fn limit_and_go<E: Entry, S: RunStore<Item = E>>(
+    below: S,
+    inner: u32,
+    outer: u32,
+    first: E,
+    second: E,
+) -> Result<(bool, Quota<Quota<S>>), Occupied<S>>
+    requires { ⌜ S·RunStore .sound below ⌝ }
+    ensures answer { λ r. ⌜ Says told-occupied r (no-start (count (S·RunStore .model .live (S·RunStore .state below)))) ⌝ }
+    ensures trip { λ r. ⌜ Cases r (λ x. x .0 ≡ whole (capped (capped (S·RunStore .model))) record { limit = outer; below = record { limit = inner; below = S·RunStore .state below } } first second) (λ _. Unit {0}) ⌝ }
+{
     let lower = match Quota::start(below, inner) {
         Ok(q) => q,
         Err(o) => return Err(o),

@@ -1,5 +1,5 @@
-use mathlib.Core.Path.{_≡_, sym, ap, _∙_, subst}
-use Rattle.store_clients.proofs.Returns.{Ending, ending}
+use mathlib.Core.Path.{sym, ap, _∙_, subst}
+use Rattle.store_clients.proofs.Returns.{ending}
 use Rattle.store_clients.specs.Trips.{Left}
 use Rattle.store_clients.proofs.there_and_back.Needs as need
 

@@ -1,4 +1,4 @@
-use mathlib.Core.Path.{_≡_, refl, sym, ap, _∙_}
+use mathlib.Core.Path.{sym, _∙_}
 use Rattle.quota_model.proofs.Totals.{counted}
 use Rattle.quota.proofs.Layers.{accepted-up}
 use Rattle.quota.proofs.quota.Quota.replace.Needs as need

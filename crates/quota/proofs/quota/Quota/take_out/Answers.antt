@@ -1,4 +1,3 @@
-use mathlib.Core.Path.{_≡_, ap, _∙_}
 use native.Mathlib.Omega.{arith}
 use Rattle.runs.specs.Runs.{no-remove}
 use Rattle.quota_model.specs.Quotas.{capped}

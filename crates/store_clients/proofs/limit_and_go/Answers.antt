@@ -1,7 +1,7 @@
-use mathlib.Core.Path.{_≡_, ap, _∙_}
+use mathlib.Core.Path.{ap, _∙_}
 use Rattle.quota_model.specs.Quotas.{State, capped}
 use Rattle.store_clients.specs.Trips.{whole}
-use Rattle.store_clients.proofs.under_two_limits.Needs as need
+use Rattle.store_clients.proofs.limit_and_go.Needs as need
 
 pub returns : need.returns
 returns g c =
