@@ -1,5 +1,8 @@
 // What the lines of a script are made of.
+ghost use mathlib.Core.Path.{_≡_};
 ghost use Prim.Native.Nat.{_≤_};
+ghost use lib.ListN.{length};
+ghost use Rattle.std.specs.Options.{Cases as BySome};
 
 // A path as it is written: up to 31 bytes, so that a path that is too long can be met.
 #[derive(Clone, Copy)]
@@ -10,14 +13,18 @@ pub struct Steps {
 }
 
 impl Steps {
-    pub fn root() -> Steps {
+    pub fn root() -> Steps
+        ensures { λ r. ⌜ r .len ≡ 0 ⌝ }
+    {
         Steps {
             bytes: [0; 31],
             len: 0,
         }
     }
 
-    pub fn bytes(&self) -> &[u8] {
+    pub fn bytes(&self) -> &[u8]
+        ensures { λ r. ⌜ length (now r) ≡ now (self .entry) .len ⌝ }
+    {
         &self.bytes[0..self.len]
     }
 
@@ -33,7 +40,9 @@ impl Steps {
     }
 
     // Child bits joined by '.', or '-' for the empty path.
-    pub fn parse(word: &str) -> Option<Steps> {
+    pub fn parse(word: &str) -> Option<Steps>
+        ensures { λ r. ⌜ BySome r (Unit {0}) (λ p. p .len ≤ 31) ⌝ }
+    {
         let mut steps = Steps::root();
         if word == "-" {
             return Some(steps);
@@ -57,7 +66,9 @@ pub struct StoreKind {
 
 impl StoreKind {
     // t:CELLS, f:CELLS, or qLIMIT: before a store.
-    pub fn parse(word: &str) -> Option<StoreKind> {
+    pub fn parse(word: &str) -> Option<StoreKind>
+        ensures { λ r. ⌜ BySome r (Unit {0}) (λ k. k .cells ≤ 16777216) ⌝ }
+    {
         if let Some(rest) = word.strip_prefix('q') {
             let (limit, below) = rest.split_once(':')?;
             let outer = limit.parse::<u32>().ok()?;
@@ -66,7 +77,9 @@ impl StoreKind {
         StoreKind::alone(word)
     }
 
-    fn alone(word: &str) -> Option<StoreKind> {
+    fn alone(word: &str) -> Option<StoreKind>
+        ensures { λ r. ⌜ BySome r (Unit {0}) (λ k. k .cells ≤ 16777216) ⌝ }
+    {
         let (kind, cells) = word.split_once(':')?;
         let cells = cells.parse::<usize>().ok()?;
         if cells > 16777216 || (kind != "t" && kind != "f") {
@@ -81,7 +94,9 @@ impl StoreKind {
         })
     }
 
-    fn under(limit: u32, word: &str) -> Option<StoreKind> {
+    fn under(limit: u32, word: &str) -> Option<StoreKind>
+        ensures { λ r. ⌜ BySome r (Unit {0}) (λ k. k .cells ≤ 16777216) ⌝ }
+    {
         if let Some(rest) = word.strip_prefix('q') {
             let (inner, below) = rest.split_once(':')?;
             let inner = inner.parse::<u32>().ok()?;

@@ -1,5 +1,8 @@
 // Stores by their names in a script, and the table over them.
 ghost use mathlib.Core.Path.{_≡_};
+ghost use Prim.Native.Nat.{_≤_};
+ghost use Rattle.std.specs.Of.Vec.{vec-len};
+ghost use Rattle.std.specs.declared.result.Result.the-variants.{Ok};
 ghost use Rattle.trunk.specs.Meaning.{Sound};
 use crate::line::Kinds;
 use crate::line::StoreKind;
@@ -196,7 +199,9 @@ pub fn play_history<E: Value>(
     lines: &Vec<String>,
     at: usize,
     before: Kinds,
-) -> io::Result<(usize, Kinds)> {
+) -> io::Result<(usize, Kinds)>
+    ensures { λ r. ⌜ (vec-len (now (lines .entry)) ≤ at → r ≡ Ok (at, before)) ⌝ }
+{
     if at >= lines.len() {
         return Ok((at, before));
     }
