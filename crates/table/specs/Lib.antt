@@ -1,3 +1,1 @@
-pub mod Meaning
-pub mod Promises
-pub mod Steps
+pub mod Starting

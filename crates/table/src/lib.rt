@@ -1,19 +1,12 @@
 // A table over two run stores: a tree of bitmap nodes whose meaning is a plain tree.
 pub mod calls;
-mod descent;
-mod judge;
-pub mod run;
-pub mod spot;
 pub mod start;
-mod steps;
 
-use nodes::record::NodeRecord;
+use trunk::Trunk;
 
-// The two stores and the root's record.
+// The two stores and the root's record are in the trunk.
 pub struct Table<N, V> {
-    nodes: N,
-    values: V,
-    root: NodeRecord,
+    trunk: Trunk<N, V>,
 }
 
 // 12: two stores that no table can start on, as they were.

@@ -6,8 +6,7 @@ ghost use Rattle.std.specs.declared.option.Option.the-variants.{None};
 ghost use Rattle.std.specs.declared.result.Result.the-variants.{Ok};
 ghost use Rattle.runs.specs.Calls.{Asked};
 ghost use Rattle.runs.specs.Runs.{count};
-ghost use Rattle.table.specs.Promises.{Starts, start-no};
-ghost use Rattle.table.specs.Steps.{Quiet};
+ghost use Rattle.table.specs.Starting.{Starts, Quiet, start-no};
 use crate::NotStarted;
 use crate::Table;
 use nodes::record::NodeRecord;
@@ -15,6 +14,7 @@ use runs::entry::Entry;
 use runs::entry::NodeEntry;
 use runs::entry::NodeRow;
 use runs::store::RunStore;
+use trunk::Trunk;
 
 // Whether a store has no live run.
 fn idle<E: Entry, S: RunStore<Item = E>>(store: &mut S) -> bool
@@ -50,9 +50,11 @@ fn begin<E: Entry, N: RunStore<Item = NodeRow>, V: RunStore<Item = E>>(
     ensures { λ r. ⌜ ((x : N) (y : V) → Quiet N·RunStore V·RunStore x y true nodes values → Starts N·RunStore V·RunStore x y (Ok r)) ⌝ }
 {
     Table {
-        nodes,
-        values,
-        root: NodeRecord::bare(),
+        trunk: Trunk {
+            nodes,
+            values,
+            root: NodeRecord::bare(),
+        },
     }
 }
 
@@ -82,14 +84,14 @@ impl<N, V> NotStarted<N, V> {
 impl<N, V> Table<N, V> {
     // The node store, to be looked at.
     pub fn nodes(&self) -> &N
-        ensures { λ r. ⌜ now r ≡ now (self .entry) .nodes ⌝ }
+        ensures { λ r. ⌜ now r ≡ now (self .entry) .trunk .nodes ⌝ }
     {
-        &self.nodes
+        &self.trunk.nodes
     }
 
     pub fn values(&self) -> &V
-        ensures { λ r. ⌜ now r ≡ now (self .entry) .values ⌝ }
+        ensures { λ r. ⌜ now r ≡ now (self .entry) .trunk .values ⌝ }
     {
-        &self.values
+        &self.trunk.values
     }
 }
