@@ -24,10 +24,21 @@ use nodes::check::record_of;
 use nodes::fault::Fault;
 use nodes::fault::FaultFromPath;
 use nodes::path::read_path;
+use nodes::record::NodeRecord;
 use runs::entry::Entry;
 use runs::entry::NodeEntry;
 use runs::entry::NodeRow;
 use runs::store::RunStore;
+
+// Where the record of a node's child stands: in the node's run of children, at the rank of the child's bit.
+fn child_place(parent: NodeRecord, bit: Bit) -> Where
+    ensures { λ r. ⌜ place-of r ≡ slot (parent .«children_index» .number) (rank (parent .«child_bitmap») (bit .number)) ⌝ }
+{
+    Where::Entry(
+        parent.children_index,
+        compute_slot(parent.child_bitmap, bit),
+    )
+}
 
 impl<E: Entry, N: RunStore<Item = NodeRow>, V: RunStore<Item = E>> Trunk<N, V> {
     // The child of a node at a bit, if there is one.
@@ -55,10 +66,7 @@ impl<E: Entry, N: RunStore<Item = NodeRow>, V: RunStore<Item = E>> Trunk<N, V> {
             unreachable()
         };
         Some(Spot {
-            place: Where::Entry(
-                record.children_index,
-                compute_slot(record.child_bitmap, bit),
-            ),
+            place: child_place(record, bit),
             record: child,
         })
     }

@@ -1,4 +1,7 @@
 // Each call judged before anything is written, in the order of the refusals: the tree first, and then the stores.
+ghost use mathlib.Core.Path.{_≡_};
+ghost use lib.Dec.{leb};
+ghost use lib.ListN.{length};
 ghost use Rattle.table_model.specs.Calls.{get-no, put-no, take-no, add-no, plant-no, drop-no};
 ghost use Rattle.table_model.specs.Judged.{May-get, May-put, May-take, May-add, May-plant, May-drop};
 ghost use Rattle.trunk.specs.Meaning.{states, Sound};
@@ -20,6 +23,13 @@ use runs::store::RunStore;
 const DATA_BITS: u32 = 31;
 
 const CHILD_BITS: u32 = 32;
+
+// Whether no child can be below a path.
+fn at_depth(path: &[u8]) -> bool
+    ensures { λ r. ⌜ r ≡ leb 25 (length (now (path .entry))) ⌝ }
+{
+    path.len() >= LONGEST_PATH
+}
 
 impl<E: Entry, N: RunStore<Item = NodeRow>, V: RunStore<Item = E>> Trunk<N, V> {
     // A set data bit.
@@ -79,7 +89,7 @@ impl<E: Entry, N: RunStore<Item = NodeRow>, V: RunStore<Item = E>> Trunk<N, V> {
             r (now (self .exit)) ⌝ }
     {
         let spot = self.reach(path, bit, CHILD_BITS)?;
-        if path.len() >= LONGEST_PATH {
+        if at_depth(path) {
             return Err(Fault::TooDeep);
         }
         if is_set(spot.record.child_bitmap, bit) {

@@ -2,7 +2,6 @@ use mathlib.Core.Path.{refl, sym, ap, _∙_}
 use Rattle.nodes.specs.Records.{row-of}
 use Rattle.runs.specs.declared.entry.NodeRow.{NodeRow}
 use Rattle.std.specs.declared.option.Option.the-variants.{Some}
-use Rattle.table_model.specs.States.{slot}
 use Rattle.table_model.proofs.Nodes.{child-inside, child-read, child-passes, child-clear}
 use Rattle.table_model.proofs.States.{entry-yes}
 use Rattle.trunk.specs.Steps.{place-of}
@@ -41,6 +40,6 @@ returns g c =
       untouched = u .1;
       answer = (
         k ∙ ap (λ (x : NodeRow). Some x) (sym (c .in-Some .ensures tt .1)),
-        ap (slot (c .args .spot .record .«children_index» .number)) (c .compute-slot .ensures .rank),
+        c .child-place .ensures,
       );
     }
