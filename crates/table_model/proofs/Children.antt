@@ -18,6 +18,7 @@ use Rattle.table_model.specs.Tree.{Path, Tree, with-path}
 use Rattle.table_model.specs.Table.{bare-row, then, isSome, entry, child, value, find, treeOf, Holds, Agrees}
 use Rattle.runs.specs.declared.entry.NodeRow.{NodeRow}
 use Rattle.table_model.specs.States.{with-children}
+use Rattle.table_model.proofs.Counting.{tree-same}
 use Rattle.table_model.proofs.Nths.{length-new, length-without}
 use Rattle.table_model.proofs.Paths.{cases-path}
 use Rattle.table_model.proofs.Entries.{entry-clear, new-here, new-other, less-here, less-other}
@@ -25,7 +26,7 @@ use Rattle.table_model.proofs.Finds.{find-snoc}
 use Rattle.table_model.proofs.Holding.{none-live, some-same}
 use Rattle.table_model.proofs.Moves.{moved-new, unmoved, growing-moved, removing-moved, low-index}
 use Rattle.table_model.proofs.Rewriting.{Rewrite, agrees-after, has-after, val-here, val-else, finds-here, finds-leaf}
-use Rattle.table_model.proofs.Values.{tree-same, never, index-left}
+use Rattle.table_model.proofs.Values.{never, index-left}
 
 -- The child part of the record at p becomes d, with the run xs at j in `mid`; at bit b there is `new`.
 pub record Rechild {V : Type 0} (nodes mid after : ℕ → List NodeRow) (vals : ℕ → List V) (root root2 : NodeRow) (p : Path) (r : NodeRow) (d j b : ℕ) (new : Option NodeRow) (xs : List NodeRow) : Type 0 where
@@ -58,6 +59,7 @@ module _ {V : Type 0} (nodes mid after : ℕ → List NodeRow) (vals : ℕ → L
     value-some = h .agrees .values .some p r (h .found);
     value-count = h .agrees .values .full p r (h .found);
     value-moved = unmoved vals (r .«data_index»);
+    value-summed = refl;
     was = h .was;
     leaf = h .leaf;
     short = h .short;

@@ -12,10 +12,10 @@ use native.Mathlib.Decide.{decLe}
 use Rattle.std.specs.declared.option.Option.{Option}
 use Rattle.std.specs.declared.option.Option.the-variants.{Some, None}
 use Rattle.bitmap.specs.Ranks.{bit, rank, isSet}
-use Rattle.bitmap.proofs.Ranks.{Added, cases-bit, set-nonzero, added-low, added-high, rank-up, rank-strict, rank-distinct}
+use Rattle.bitmap.proofs.Ranks.{Added, cases-bit, set-nonzero, added-low, added-high, rank-up, rank-strict, rank-distinct, set-within}
 use Rattle.runs.specs.Lists.{with-new, without, nth}
-use Rattle.table_model.specs.Table.{entry}
-use Rattle.table_model.proofs.Nths.{nth-new-at, nth-new-below, nth-new-above, nth-without-below, nth-without-above, nth-set-at, nth-set-other, nth-some-in}
+use Rattle.table_model.specs.Table.{isSome, entry}
+use Rattle.table_model.proofs.Nths.{nth-new-at, nth-new-below, nth-new-above, nth-without-below, nth-without-above, nth-set-at, nth-set-other, nth-some-in, nth-in}
 
 module _ {E : Type 0} where
   pub entry-set : (xs : List E) (m b : ℕ) → bit m b ≡ 1 → entry xs m b ≡ nth xs (rank m b)
@@ -88,4 +88,13 @@ module _ {E : Type 0} where
   entry-same xs ys m c h = elim (cases-bit m c) [
     | inl z ↦ entry-clear xs m c z ∙ sym (entry-clear ys m c z)
     | inr o ↦ ap (λ (zs : List E). entry zs m c) (h (set-nonzero m c o))
+  ]
+
+  -- a run as long as its bitmap has set bits has an entry for each
+  pub entry-is : (xs : List E) (m b w : ℕ) → m < 2 ^ w → length xs ≡ rank m w → isSome (entry xs m b) ≡ isSet m b
+  entry-is xs m b w fits full = elim (cases-bit m b) [
+    | inl z ↦ ap isSome (entry-clear xs m b z) ∙ sym (ap (λ (d : ℕ). eqb d 1) z)
+    | inr o ↦
+        let e = nth-in xs (rank m b) (omega (arith, full, rank-strict m b w o (set-within m b w fits o))) in
+        ap isSome (entry-set xs m b o ∙ e .1) ∙ sym (ap (λ (d : ℕ). eqb d 1) o)
   ]

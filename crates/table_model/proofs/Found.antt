@@ -58,7 +58,7 @@ pub record Change (nodes mid after : ℕ → List NodeRow) (root root2 : NodeRow
   pub other : (c : ℕ) → (c ≡ b → ⊥) → child mid r2 c ≡ child nodes r c
   pub written : Written nodes root mid p r2 after root2
 
-leaf-none : (m : ℕ → List NodeRow) (c : ℕ) (o : Option NodeRow) → ((s : NodeRow) → o ≡ Some s → s ≡ bare-row) → then o (λ s. child m s c) ≡ None
+pub leaf-none : (m : ℕ → List NodeRow) (c : ℕ) (o : Option NodeRow) → ((s : NodeRow) → o ≡ Some s → s ≡ bare-row) → then o (λ s. child m s c) ≡ None
 leaf-none m c None h = refl
 leaf-none m c (Some s) h = entry-clear (m (s .«children_index»)) (s .«child_bitmap») c (ap (λ (u : NodeRow). bit (u .«child_bitmap») c) (h s refl) ∙ bit-of-zero c)
 

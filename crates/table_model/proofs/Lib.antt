@@ -1,6 +1,7 @@
 pub mod Bits
 pub mod Nths
 pub mod Paths
+pub mod Counting
 pub mod Entries
 pub mod Finds
 pub mod Holding

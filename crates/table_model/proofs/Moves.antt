@@ -6,19 +6,19 @@ use mathlib.Core.Logic.{_⊎_, inl, inr}
 use Prim.Native.Nat.{ℕ, zero, suc, _+_, _<_, _≤_}
 use native.Mathlib.Omega.{arith}
 use lib.ListN.{length, set, length-set}
-use Rattle.std.proofs.shelf.Tests.{cases-eq}
+use Rattle.std.proofs.shelf.Tests.{cases-eq, cases-lt}
 use Rattle.std.proofs.shelf.Lists.{nil-from-length}
 use Rattle.std.specs.declared.option.Option.{Option}
 use Rattle.std.specs.declared.option.Option.the-variants.{Some, None}
 use Rattle.bitmap.specs.Ranks.{rank}
 use Rattle.runs.specs.Lists.{empty, indexes, at, with-new, without}
-use Rattle.runs.specs.Runs.{Moved, Removing, ended, left}
-use Rattle.table_model.proofs.Steps.{Growing, opened, inserted, Written, at-root, in-run}
+use Rattle.runs.specs.Runs.{total, Moved, Removing, ended, left}
+use Rattle.table_model.proofs.Steps.{Low, Growing, opened, inserted, Written, at-root, in-run}
 use Rattle.table_model.specs.Tree.{Path}
 use Rattle.table_model.specs.Table.{then, child, find}
 use Rattle.runs.specs.declared.entry.NodeRow.{NodeRow}
 use Rattle.table_model.proofs.Nths.{at-here, length-without, set-as-was}
-use Rattle.runs.proofs.Counts.{put-other}
+use Rattle.runs.proofs.Counts.{put-other, tally-put}
 use Rattle.table_model.proofs.Paths.{ends}
 use Rattle.table_model.proofs.Entries.{entry-nth}
 use Rattle.table_model.proofs.Finds.{find-nil, find-snoc}
@@ -116,6 +116,23 @@ module _ {E : Type 0} where
   -- an index that is live is not the empty one
   pub low-index : (m : ℕ → List E) (j : ℕ) → ((i : ℕ) → indexes ≤ i → m i ≡ []) → 0 < length (m j) → j ≡ empty → ⊥
   low-index m j low n e = omega (arith, ap length (low j (omega arith)))
+
+  -- ---- how many entries there are in all
+
+  filled : (m : ℕ → List E) (i : ℕ) (xs : List E) → (indexes ≤ i → (m i ≡ []) × (xs ≡ [])) → total (at m i xs) + length (m i) ≡ total m + length xs
+  filled m i xs h = elim (cases-lt i indexes) [
+    | inl l ↦ tally-put length m i xs indexes l
+    | inr l ↦
+        let z = h l in
+        let same : at m i xs ≡ m = fun-ext (λ (k : ℕ). ap (λ (ys : List E). at m i ys k) (z .1) ∙ hollow m i (z .0) k) in
+        omega (arith, ap total same, ap length (z .0), ap length (z .1))
+  ]
+
+  pub moved-total : (m : ℕ → List E) (i j : ℕ) (xs : List E) (m2 : ℕ → List E) → Low m → Low m2 → Moved m i j xs m2 → total m2 + length (m i) ≡ total m + length xs
+  moved-total m i j xs m2 low low2 h =
+      let one = filled m i [] (λ l. (low i l, refl)) in
+      let two = filled (at m i []) j xs (λ l. (h .free, sym (moved-new m i j xs m2 h) ∙ low2 j l)) in
+      omega (arith, ap total (h .is), ap length (h .free))
 
 -- a record written back as it was
 pub written-same : (nodes : ℕ → List NodeRow) (root : NodeRow) (p : Path) (r : NodeRow) → find nodes root p ≡ Some r → Written nodes root nodes p r nodes root

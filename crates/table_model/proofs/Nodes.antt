@@ -17,10 +17,11 @@ use Rattle.runs.specs.Runs.{Model, Lawful, grows, no-insert}
 use Rattle.runs.specs.declared.entry.NodeRow.{NodeRow}
 use Rattle.table_model.specs.Tree.{Path}
 use Rattle.table_model.specs.Table.{bare-row, then, isSome, child, find, treeOf, Agrees, Passes}
-use Rattle.table_model.specs.Refusals.{passing, value-count, child-count, is-bare}
+use Rattle.table_model.specs.Refusals.{value-count, child-count, is-bare}
 use Rattle.table_model.specs.States.{Place, top, descend}
 use Rattle.table_model.specs.Judged.{no-growth, no-write}
 use Rattle.table_model.specs.Laws.{Shown}
+use Rattle.table_model.proofs.Counting.{passing-rank}
 use Rattle.table_model.proofs.Nths.{nth-some-in}
 use Rattle.table_model.proofs.Entries.{entry-nth, entry-set, entry-clear}
 use Rattle.table_model.proofs.Finds.{find-nil, find-snoc}
@@ -31,17 +32,6 @@ use Rattle.table_model.proofs.States.{Placed, first, under, placed, descend-fi
 -- the record at a path's place
 pub way-find : (nodes : ℕ → List NodeRow) (root : NodeRow) (p : Path) (pl : Place) (r : NodeRow) → descend nodes top root p ≡ Some (pl, r) → find nodes root p ≡ Some r
 way-find nodes root p pl r way = descend-find nodes root p pl r (placed nodes root p pl r way)
-
-bit-is : (m b : ℕ) → cond (isSet m b) 1 0 ≡ bit m b
-bit-is m b = elim (cases-bit m b) [
-  | inl z ↦ ap (λ (x : ℕ). cond (eqb x 1) 1 0) z ∙ sym z
-  | inr o ↦ ap (λ (x : ℕ). cond (eqb x 1) 1 0) o ∙ sym o
-]
-
-passing-rank : (f : ℕ → Bool) (m w : ℕ) → ((b : ℕ) → f b ≡ isSet m b) → passing f w ≡ rank m w
-unfolding passing rank
-passing-rank f m zero h = refl
-passing-rank f m (suc w) h = omega (arith, passing-rank f m w h, ap (λ (x : Bool). cond {A = ℕ} x 1 0) (h w), bit-is m w)
 
 module _ {V : Type 0} (nodes : ℕ → List NodeRow) (vals : ℕ → List V) (root : NodeRow) (a : Agrees nodes vals root) (p : Path) (r : NodeRow) (found : find nodes root p ≡ Some r) where
   -- a table's rows always pass the check

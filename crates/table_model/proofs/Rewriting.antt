@@ -9,22 +9,57 @@ use lib.Dec.{eqb}
 use native.Mathlib.Omega.{arith}
 use Rattle.std.specs.declared.option.Option.{Option}
 use Rattle.std.specs.declared.option.Option.the-variants.{Some, None}
-use Rattle.std.proofs.shelf.Lists.{length-push}
+use Rattle.std.proofs.shelf.Lists.{length-push, append-assoc}
 use Rattle.std.proofs.shelf.Tests.{cases-eq, cond-true, cond-false}
 use Rattle.bitmap.specs.Ranks.{bit, rank}
 use Rattle.runs.specs.Lists.{empty, at}
-use Rattle.runs.specs.Runs.{Moved}
-use Rattle.table_model.specs.Tree.{Path, Tree, same-path}
+use Rattle.runs.specs.Runs.{Moved, total}
+use Rattle.table_model.specs.Tree.{Path, Tree, same-path, below}
 use Rattle.table_model.specs.Table.{bare-row, then, isSome, entry, child, value, find, treeOf, Holds, Agrees}
 use Rattle.table_model.proofs.Steps.{Written}
 use Rattle.runs.specs.declared.entry.NodeRow.{NodeRow}
-use Rattle.bitmap.proofs.Ranks.{bit-of-zero}
+use Rattle.bitmap.proofs.Ranks.{bit-of-zero, set-within}
+use Rattle.table_model.specs.Refusals.{value-count}
+use Rattle.table_model.proofs.Counting.{tree-same, passing-rank, On, Differ, walk-differs}
 use Rattle.table_model.proofs.Paths.{eq-same, ne-same, cases-path, longer}
-use Rattle.table_model.proofs.Entries.{entry-clear, entry-same}
+use Rattle.table_model.proofs.Entries.{entry-clear, entry-same, entry-some, entry-is}
 use Rattle.table_model.proofs.Finds.{find-snoc}
 use Rattle.table_model.proofs.Holding.{some-same, Step, off-old, off-new, held}
-use Rattle.table_model.proofs.Found.{changed, changed-here, changed-leaf, changed-else, Change, found-after}
+use Rattle.table_model.proofs.Found.{changed, changed-here, changed-leaf, changed-else, Change, found-after, leaf-none}
 use Rattle.table_model.proofs.Moves.{moved-new, moved-old, moved-same, moved-free, written-length}
+
+-- what lies below a child bit is the child's own tree
+pub below-is : {V : Type 0} (nodes : ℕ → List NodeRow) (vals : ℕ → List V) (r s : NodeRow) (b : ℕ) → child nodes r b ≡ Some s → below (treeOf nodes vals r) b ≡ treeOf nodes vals s
+unfolding find
+below-is nodes vals r s b e = tree-same (below (treeOf nodes vals r) b) (treeOf nodes vals s)
+    (λ q. ap (λ (o : Option NodeRow). isSome (then o (λ (u : NodeRow). find nodes u q))) e)
+    (λ q c. ap (λ (o : Option NodeRow). then (then o (λ (u : NodeRow). find nodes u q)) (λ (u : NodeRow). value vals u c)) e)
+
+-- the first step of a path at which a record is found
+first-child : (nodes : ℕ → List NodeRow) (root : NodeRow) (c : ℕ) (q : Path) (r : NodeRow) → find nodes root (c ∷ q) ≡ Some r → (s : NodeRow) × (child nodes root c ≡ Some s) × (find nodes s q ≡ Some r)
+unfolding find
+first-child nodes root c q r f = next (child nodes root c) refl
+  where
+    next : (o : Option NodeRow) → child nodes root c ≡ o → (s : NodeRow) × (child nodes root c ≡ Some s) × (find nodes s q ≡ Some r)
+    next None e =
+        let lost : find nodes root (c ∷ q) ≡ None = ap (λ (o : Option NodeRow). then o (λ (s : NodeRow). find nodes s q)) e in
+        absurd (let z : _≡_ {A = ℕ} 0 1 = cc in omega arith)
+    next (Some s) e = (s, e, sym (ap (λ (o : Option NodeRow). then o (λ (u : NodeRow). find nodes u q)) e) ∙ f)
+
+-- a path at which a record is found can be followed
+found-on : {V : Type 0} (nodes : ℕ → List NodeRow) (vals : ℕ → List V) (d : ℕ) (root : NodeRow) (p : Path) (r : NodeRow) → find nodes root p ≡ Some r → length p ≤ d →
+    ((q : Path) (s : NodeRow) → find nodes root q ≡ Some s → s .«child_bitmap» < 2 ^ 32) → On d (treeOf nodes vals root) p
+unfolding find
+found-on nodes vals d root [] r f l fits = tt
+found-on nodes vals zero root (c ∷ q) r f l fits = absurd (omega arith)
+found-on {V} nodes vals (suc d) root (c ∷ q) r f l fits =
+    let s = first-child nodes root c q r f in
+    let small : c < 32 = set-within (root .«child_bitmap») c 32 (fits [] root refl) (entry-some (nodes (root .«children_index»)) (root .«child_bitmap») c (s .0) (s .1)) in (
+      ap isSome (ap (λ (o : Option NodeRow). then o (λ (u : NodeRow). find nodes u [])) (s .1)),
+      small,
+      subst (λ (t : Tree V). On d t q) (sym (below-is nodes vals root (s .0) c (s .1)))
+          (found-on nodes vals d (s .0) q r (s .2) (omega arith) (λ t u g. fits (c ∷ t) u (ap (λ (o : Option NodeRow). then o (λ (x : NodeRow). find nodes x t)) (s .1) ∙ g))),
+    )
 
 -- The record at p was r and is r2; its child run is xs now and its value run ys. At bit b of it a bare child has come or gone, or there is none before and after.
 pub record Rewrite {V : Type 0} (nodes mid after : ℕ → List NodeRow) (vals vals2 : ℕ → List V) (root root2 : NodeRow) (p : Path) (r r2 : NodeRow) (b : ℕ) (new : Option NodeRow) (xs : List NodeRow) (ys : List V) : Type 0 where
@@ -40,6 +75,7 @@ pub record Rewrite {V : Type 0} (nodes mid after : ℕ → List NodeRow) (vals v
   pub value-some : r2 .«data_index» ≡ empty → r2 .«data_bitmap» ≡ 0
   pub value-count : length ys ≡ rank (r2 .«data_bitmap») 31
   pub value-moved : Moved vals (r .«data_index») (r2 .«data_index») ys vals2
+  pub value-summed : total vals2 + length (vals (r .«data_index»)) ≡ total vals + length ys
   pub was : (s : NodeRow) → child nodes r b ≡ Some s → s ≡ bare-row
   pub leaf : (s : NodeRow) → new ≡ Some s → s ≡ bare-row
   pub short : (s : NodeRow) → new ≡ Some s → length p < 25
@@ -169,13 +205,6 @@ module _ {V : Type 0} (nodes mid after : ℕ → List NodeRow) (vals vals2 : ℕ
     ]
   ]
 
-  pub agrees-after : Agrees after vals2 root2
-  agrees-after = record {
-    children = held 32 (λ s. s .«child_bitmap») (λ s. s .«children_index») (λ i. length (nodes i)) (find nodes root) (h .agrees .children) (λ i. length (after i)) (find after root2) p r r2 child-step;
-    values = held 31 (λ s. s .«data_bitmap») (λ s. s .«data_index») (λ i. length (vals i)) (find nodes root) (h .agrees .values) (λ i. length (vals2 i)) (find after root2) p r r2 value-step;
-    shallow = shallow;
-  }
-
   -- the tree, path by path
   has-here : isSome (find after root2 p) ≡ isSome (find nodes root p)
   has-here = ap isSome (finds-here p refl) ∙ sym (ap isSome (h .found))
@@ -210,3 +239,36 @@ module _ {V : Type 0} (nodes mid after : ℕ → List NodeRow) (vals vals2 : ℕ
         moved-same vals (r .«data_index») (r2 .«data_index») ys vals2 (h .value-moved) (s .«data_index»)
         (value-off-old q s (λ e. n (sym e)) f z) (value-off-new q s (λ e. n (sym e)) f z))
   ]
+
+  -- the values in the tree, counted before and after
+  differ : Differ p b (treeOf nodes vals root) (treeOf after vals2 root2)
+  differ = record {
+    has-same = λ q n. has-after q ∙ cond-false (same-path (p ++ b ∷ []) q) (isSome new) (isSome (find nodes root q)) (ne-same (p ++ b ∷ []) q (λ e. n (sym e)));
+    val-same = λ q c n. val-else q c (λ e. n (sym e));
+    no-value = λ c. ap (λ (o : Option NodeRow). then o (λ (s : NodeRow). value vals s c)) (found-leaf (p ++ b ∷ []) refl) ∙ bare-value vals (child nodes r b) c (h .was);
+    no-child = λ c.
+        ap (λ (q : Path). isSome (find nodes root q)) (sym (append-assoc p (b ∷ []) (c ∷ [])))
+        ∙ ap isSome (find-snoc nodes root (p ++ b ∷ []) c ∙ leaf-none nodes c (find nodes root (p ++ b ∷ [])) (λ s e. h .was s (sym (found-leaf (p ++ b ∷ []) refl) ∙ e)));
+  }
+
+  values-before : value-count (treeOf nodes vals root) p ≡ length (vals (r .«data_index»))
+  values-before =
+      passing-rank (λ c. isSome (treeOf nodes vals root .val p c)) (r .«data_bitmap») 31
+      (λ c. ap (λ (o : Option NodeRow). isSome (then o (λ (s : NodeRow). value vals s c))) (h .found) ∙ entry-is (vals (r .«data_index»)) (r .«data_bitmap») c 31 (h .agrees .values .fits p r (h .found)) (h .agrees .values .full p r (h .found)))
+      ∙ sym (h .agrees .values .full p r (h .found))
+
+  values-after : value-count (treeOf after vals2 root2) p ≡ length ys
+  values-after =
+      passing-rank (λ c. isSome (treeOf after vals2 root2 .val p c)) (r2 .«data_bitmap») 31 (λ c. ap isSome (val-here p c refl) ∙ entry-is ys (r2 .«data_bitmap») c 31 (h .value-fits) (h .value-count))
+      ∙ sym (h .value-count)
+
+  on-path : On 25 (treeOf nodes vals root) p
+  on-path = found-on nodes vals 25 root p r (h .found) (h .agrees .shallow p r (h .found)) (h .agrees .children .fits)
+
+  pub agrees-after : Agrees after vals2 root2
+  agrees-after = record {
+    children = held 32 (λ s. s .«child_bitmap») (λ s. s .«children_index») (λ i. length (nodes i)) (find nodes root) (h .agrees .children) (λ i. length (after i)) (find after root2) p r r2 child-step;
+    values = held 31 (λ s. s .«data_bitmap») (λ s. s .«data_index») (λ i. length (vals i)) (find nodes root) (h .agrees .values) (λ i. length (vals2 i)) (find after root2) p r r2 value-step;
+    shallow = shallow;
+    counted = omega (arith, walk-differs 25 p b (treeOf nodes vals root) (treeOf after vals2 root2) on-path differ, values-before, values-after, h .value-summed, h .agrees .counted);
+  }

@@ -168,6 +168,7 @@ module _ {V N S : Type 0} (mn : Model NodeRow N) (mv : Model V S) (kn kv : ℕ) 
         added = with-added (r .«data_bitmap») b (omega arith) clear;
         fits = with-fits (r .«data_bitmap») b 31 (omega arith) (a .values .fits p r f) small;
         index = j;
+        low-before = λ i l. lv .low (t .vals) i (sound .vals-valid) l;
         low = λ i l. lv .low (put-at mn mv t pl r b v .vals) i (g .0) l;
         grown = g .1;
         written = w .1;
@@ -192,6 +193,7 @@ module _ {V N S : Type 0} (mn : Model NodeRow N) (mv : Model V S) (kn kv : ℕ) 
         taken = without-taken (r .«data_bitmap») b here;
         fits = without-fits (r .«data_bitmap») b 31 (a .values .fits p r f) small here;
         index = j;
+        low-before = λ i l. lv .low (t .vals) i (sound .vals-valid) l;
         low = λ i l. lv .low (take-at mn mv t pl r b .vals) i (g .0) l;
         shrunk = g .1;
         written = w .1;
@@ -207,7 +209,7 @@ module _ {V N S : Type 0} (mn : Model NodeRow N) (mv : Model V S) (kn kv : ℕ) 
       let within : b < 31 = set-within (r .«data_bitmap») b 31 (a .values .fits p r f) here in
       let inside : rank (r .«data_bitmap») b < length (mv .live (t .vals) (r .«data_index»)) = omega (arith, rank-strict (r .«data_bitmap») b 31 here within) in
       let g = lv .exchanging (t .vals) (r .«data_index») (rank (r .«data_bitmap») b) v (sound .vals-valid) (entry-yes mv kv VS lv (t .vals) (r .«data_index») (rank (r .«data_bitmap») b) inside) in
-      let out = swap-law (mn .live (t .nodes)) (mv .live (t .vals)) (mv .live (swap-at mn mv t r b v .vals)) (t .root) p b v a (record { r = r; found = f; here = here; exchanged = g .1 }) in
+      let out = swap-law (mn .live (t .nodes)) (mv .live (t .vals)) (mv .live (swap-at mn mv t r b v .vals)) (t .root) p b v a (record { r = r; found = f; here = here; low-before = λ i l. lv .low (t .vals) i (sound .vals-valid) l; low = λ i l. lv .low (swap-at mn mv t r b v .vals) i (g .0) l; exchanged = g .1 }) in
       (record { nodes-valid = sound .nodes-valid; vals-valid = g .0; agrees = out .0 }, out .1)
 
   adding : (b : ℕ) → length p < 25 → b < 32 → bit (r .«child_bitmap») b ≡ 0 → grows mn (t .nodes) (rank (r .«child_bitmap») 32) ≡ None →

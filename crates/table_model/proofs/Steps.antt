@@ -38,6 +38,7 @@ pub record Put {V : Type 0} (nodes : ℕ → List NodeRow) (vals : ℕ → List 
   pub added : Added (r .«data_bitmap») bitmap b
   pub fits : bitmap < 2 ^ 31
   pub index : ℕ
+  pub low-before : Low vals
   pub low : Low vals-after
   pub grown : Growing vals (r .«data_index») (rank (r .«data_bitmap») b) v index vals-after
   pub written : Written nodes root nodes p (with-data r bitmap index) nodes-after root-after
@@ -56,6 +57,7 @@ pub record Take {V : Type 0} (nodes : ℕ → List NodeRow) (vals : ℕ → List
   pub taken : Added bitmap (r .«data_bitmap») b
   pub fits : bitmap < 2 ^ 31
   pub index : ℕ
+  pub low-before : Low vals
   pub low : Low vals-after
   pub shrunk : Removing vals (r .«data_index») (rank (r .«data_bitmap») b) index vals-after
   pub written : Written nodes root nodes p (with-data r bitmap index) nodes-after root-after
@@ -70,6 +72,8 @@ pub record Swap {V : Type 0} (nodes : ℕ → List NodeRow) (vals : ℕ → List
   pub r : NodeRow
   pub found : find nodes root p ≡ Some r
   pub here : bit (r .«data_bitmap») b ≡ 1
+  pub low-before : Low vals
+  pub low : Low vals-after
   pub exchanged : vals-after ≡ at vals (r .«data_index») (set (vals (r .«data_index»)) (rank (r .«data_bitmap») b) v)
 
 abbrev pub Swap-law : Type 0 → Type 0

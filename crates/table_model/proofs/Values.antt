@@ -14,22 +14,20 @@ use Rattle.std.proofs.shelf.Lists.{nil-from-length}
 use Rattle.bitmap.specs.Ranks.{bit, rank}
 use Rattle.bitmap.proofs.Ranks.{Added, bit-past, set-nonzero, set-within, none-set, rank-up, rank-strict, rank-of-zero, added-high}
 use Rattle.runs.specs.Lists.{empty, indexes, at, nth, with-new, without}
-use Rattle.runs.specs.Runs.{Moved, Removing, ended, left}
+use Rattle.runs.specs.Runs.{total, Moved, Removing, ended, left}
 use Rattle.table_model.proofs.Steps.{Growing, Written, Put, Put-law, Take, Take-law, Swap, Swap-law}
 use Rattle.table_model.specs.Tree.{Path, Tree, same-path, with-val}
 use Rattle.table_model.specs.Table.{bare-row, then, isSome, entry, child, value, find, treeOf, Holds, Agrees}
 use Rattle.runs.specs.declared.entry.NodeRow.{NodeRow}
 use Rattle.table_model.specs.States.{with-data}
+use Rattle.table_model.proofs.Counting.{tree-same}
 use Rattle.table_model.proofs.Nths.{nth-in, length-new, length-without}
 use Rattle.table_model.proofs.Paths.{eq-same, ne-same, cases-path}
 use Rattle.table_model.proofs.Entries.{entry-set, entry-some, entry-clear, new-here, new-other, less-here, less-other, other-here, other-other}
 use Rattle.table_model.proofs.Finds.{find-snoc}
 use Rattle.table_model.proofs.Holding.{none-live}
-use Rattle.table_model.proofs.Moves.{moved-new, moved-in-place, unmoved, growing-moved, removing-moved, low-index, written-same}
+use Rattle.table_model.proofs.Moves.{moved-new, moved-in-place, unmoved, growing-moved, removing-moved, low-index, written-same, moved-total}
 use Rattle.table_model.proofs.Rewriting.{Rewrite, agrees-after, has-after, val-here, val-else}
-
-pub tree-same : {V : Type 0} (t u : Tree V) → ((q : Path) → t .has q ≡ u .has q) → ((q : Path) (c : ℕ) → t .val q c ≡ u .val q c) → t ≡ u
-tree-same t u h v = λ i. record { has = λ q. h q i; val = λ q c. v q c i }
 
 pub never : {A : Type 0} {x : A} {B : Type 0} → _≡_ {A = Option A} None (Some x) → B
 never e = absurd (let z : _≡_ {A = ℕ} 0 1 = cc in omega arith)
@@ -43,6 +41,7 @@ pub record Revalue {V : Type 0} (nodes after : ℕ → List NodeRow) (vals vals2
   pub some : j ≡ empty → d ≡ 0
   pub count : length ys ≡ rank d 31
   pub moved : Moved vals (r .«data_index») j ys vals2
+  pub summed : total vals2 + length (vals (r .«data_index»)) ≡ total vals + length ys
   pub written : Written nodes root nodes p (with-data r d j) after root2
 
 module _ {V : Type 0} (nodes after : ℕ → List NodeRow) (vals vals2 : ℕ → List V) (root root2 : NodeRow) (p : Path) (r : NodeRow) (d j : ℕ) (ys : List V) (h : Revalue nodes after vals vals2 root root2 p r d j ys) where
@@ -66,6 +65,7 @@ module _ {V : Type 0} (nodes after : ℕ → List NodeRow) (vals vals2 : ℕ →
     value-some = h .some;
     value-count = h .count;
     value-moved = h .moved;
+    value-summed = h .summed;
     was = λ s e. never (sym no-child ∙ e);
     leaf = λ s e. never e;
     short = λ s e. never e;
@@ -147,6 +147,7 @@ put-law {V} nodes nodes2 vals vals2 root root2 p b v a h = (revalued nodes nodes
       some = λ z. absurd (there z);
       count = more ∙ ap (λ (n : ℕ). n + 1) full ∙ sym (added-high (h .r .«data_bitmap») (h .bitmap) b (h .added) 31 (h .small));
       moved = moved;
+      summed = moved-total vals (h .r .«data_index») (h .index) ys vals2 (h .low-before) (h .low) moved;
       written = h .written;
     }
 
@@ -195,6 +196,7 @@ take-law {V} nodes nodes2 vals vals2 root root2 p b a h = (revalued nodes nodes2
       some = ends .1;
       count = count;
       moved = moved;
+      summed = moved-total vals (h .r .«data_index») (h .index) ys vals2 (h .low-before) (h .low) moved;
       written = h .written;
     }
 
@@ -216,6 +218,9 @@ swap-law {V} nodes vals vals2 root p b v a h = (revalued nodes nodes vals vals2 
     old : (e : V) × (nth run (rank (h .r .«data_bitmap») b) ≡ Some e)
     old = nth-in run (rank (h .r .«data_bitmap») b) (omega (arith, full, rank-strict (h .r .«data_bitmap») b 31 (h .here) within))
 
+    moved : Moved vals (h .r .«data_index») (h .r .«data_index») ys vals2
+    moved = subst (λ (m : ℕ → List V). Moved vals (h .r .«data_index») (h .r .«data_index») ys m) (sym (h .exchanged)) (moved-in-place vals (h .r .«data_index») ys)
+
     stood : entry run (h .r .«data_bitmap») b ≡ Some (old .0)
     stood = entry-set run (h .r .«data_bitmap») b (h .here) ∙ old .1
 
@@ -227,6 +232,7 @@ swap-law {V} nodes vals vals2 root p b v a h = (revalued nodes nodes vals vals2 
       none = a .values .none p (h .r) (h .found);
       some = a .values .some p (h .r) (h .found);
       count = length-set run (rank (h .r .«data_bitmap») b) v ∙ full;
-      moved = subst (λ (m : ℕ → List V). Moved vals (h .r .«data_index») (h .r .«data_index») ys m) (sym (h .exchanged)) (moved-in-place vals (h .r .«data_index») ys);
+      moved = moved;
+      summed = moved-total vals (h .r .«data_index») (h .r .«data_index») ys vals2 (h .low-before) (h .low) moved;
       written = written-same nodes root p (h .r) (h .found);
     }

@@ -1,5 +1,5 @@
 -- Start, plant, and what a node's record shows of the tree.
-use mathlib.Core.Path.{_≡_, refl, sym, ap, subst, _∙_}
+use mathlib.Core.Path.{_≡_, refl, sym, ap, subst, _∙_, fun-ext}
 use mathlib.Core.Bool.{Bool, true, false, cond}
 use mathlib.Core.List.{List, [], _∷_, _++_}
 use mathlib.Core.Logic.{_⊎_, inl, inr}
@@ -12,17 +12,21 @@ use Rattle.std.specs.declared.option.Option.the-variants.{Some, None}
 use Rattle.std.proofs.shelf.Lists.{length-push}
 use Rattle.bitmap.specs.Ranks.{bit, rank, isSet}
 use Rattle.bitmap.proofs.Ranks.{Added, cases-bit, bit-of-zero, rank-of-zero, rank-strict, set-within}
-use Rattle.runs.specs.Lists.{empty, at, nth}
+use Rattle.runs.specs.Lists.{empty, indexes, at, nth}
+use Rattle.runs.specs.Runs.{total}
+use Rattle.runs.proofs.Counts.{tally-none}
 use Rattle.table_model.specs.Tree.{Path, Tree, Plain, followed, same-path, bare, below, with-val, with-path}
 use Rattle.table_model.specs.Table.{bare-row, then, isSome, entry, child, value, find, treeOf, Holds, Agrees}
 use Rattle.table_model.specs.Laws.{Shown, Show-law, Plain-law, Stopped, Stop-law}
 use Rattle.table_model.proofs.Steps.{Written, Start-law, Plant, Plant-law}
 use Rattle.runs.specs.declared.entry.NodeRow.{NodeRow}
 use Rattle.table_model.proofs.Nths.{nth-in}
-use Rattle.table_model.proofs.Entries.{entry-set, entry-some, entry-clear}
+use Rattle.table_model.proofs.Entries.{entry-set, entry-some, entry-clear, entry-is}
 use Rattle.table_model.proofs.Finds.{find-nil, find-snoc}
 use Rattle.table_model.proofs.Holding.{some-same}
-use Rattle.table_model.proofs.Values.{tree-same, never, put-law}
+use Rattle.table_model.proofs.Counting.{tree-same, empty-walk}
+use Rattle.table_model.proofs.Rewriting.{below-is}
+use Rattle.table_model.proofs.Values.{never, put-law}
 use Rattle.table_model.proofs.Children.{add-law}
 
 none-set-entry : {E : Type 0} (xs : List E) (b : ℕ) → entry xs 0 b ≡ None
@@ -53,6 +57,7 @@ start-law {V} nodes vals nz vz = (
     children = bare-holds 32 (λ r. r .«child_bitmap») (λ r. r .«children_index») (λ i. length (nodes i)) nodes (omega arith) refl refl (λ i. ap length (nz i));
     values = bare-holds 31 (λ r. r .«data_bitmap») (λ r. r .«data_index») (λ i. length (vals i)) nodes (omega arith) refl refl (λ i. ap length (vz i));
     shallow = λ p r f. omega (arith, ap length (only-root nodes p r f .0));
+    counted = empty-walk 25 (treeOf nodes vals bare-row) (vals-none []) (λ c. hass (c ∷ [])) ∙ sym (ap total (fun-ext vz) ∙ tally-none length indexes refl);
   },
   tree-same (treeOf nodes vals bare-row) bare hass vals-none,
 )
@@ -70,14 +75,6 @@ plant-law {V} nodes nodes2 vals vals2 root root2 p b v a h =
     let one = add-law nodes (h .nodes-between) vals root (h .root-between) p b a (h .add) in
     let two = put-law (h .nodes-between) nodes2 vals vals2 (h .root-between) root2 (p ++ b ∷ []) 0 v (one .0) (h .put) in
     (two .0, two .1 ∙ ap (λ (t : Tree V). with-val t (p ++ b ∷ []) 0 (Some v)) (one .1))
-
-entry-is : {E : Type 0} (xs : List E) (m b w : ℕ) → m < 2 ^ w → length xs ≡ rank m w → isSome (entry xs m b) ≡ isSet m b
-entry-is xs m b w fits full = elim (cases-bit m b) [
-  | inl z ↦ ap isSome (entry-clear xs m b z) ∙ sym (ap (λ (d : ℕ). eqb d 1) z)
-  | inr o ↦
-      let e = nth-in xs (rank m b) (omega (arith, full, rank-strict m b w o (set-within m b w fits o))) in
-      ap isSome (entry-set xs m b o ∙ e .1) ∙ sym (ap (λ (d : ℕ). eqb d 1) o)
-]
 
 pub show-law : {V : Type 0} → Show-law V
 unfolding find
@@ -120,12 +117,6 @@ plain-law {V} nodes vals root a = record {
       let q = then-of (find nodes root p) (λ (u : NodeRow). value vals u b) v e in
       (ap isSome (q .1), set-within (q .0 .«data_bitmap») b 31 (a .values .fits p (q .0) (q .1)) (entry-some (vals (q .0 .«data_index»)) (q .0 .«data_bitmap») b v (q .2)));
 }
-
-below-is : {V : Type 0} (nodes : ℕ → List NodeRow) (vals : ℕ → List V) (r s : NodeRow) (b : ℕ) → child nodes r b ≡ Some s → below (treeOf nodes vals r) b ≡ treeOf nodes vals s
-unfolding find
-below-is nodes vals r s b e = tree-same (below (treeOf nodes vals r) b) (treeOf nodes vals s)
-    (λ q. ap (λ (o : Option NodeRow). isSome (then o (λ (u : NodeRow). find nodes u q))) e)
-    (λ q c. ap (λ (o : Option NodeRow). then (then o (λ (u : NodeRow). find nodes u q)) (λ (u : NodeRow). value vals u c)) e)
 
 first-bit : (nodes : ℕ → List NodeRow) (r : NodeRow) (b : ℕ) → isSome (find nodes r (b ∷ [])) ≡ isSome (child nodes r b)
 first-bit nodes r b = ap isSome (find-snoc nodes r [] b ∙ ap (λ (o : Option NodeRow). then o (λ (u : NodeRow). child nodes u b)) (find-nil nodes r))

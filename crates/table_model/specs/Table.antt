@@ -8,7 +8,8 @@ use Rattle.std.specs.declared.option.Option.{Option}
 use Rattle.std.specs.declared.option.Option.the-variants.{Some, None}
 use Rattle.bitmap.specs.Ranks.{isSet, rank}
 use Rattle.runs.specs.Lists.{empty, nth}
-use Rattle.table_model.specs.Tree.{Path, Tree}
+use Rattle.runs.specs.Runs.{total}
+use Rattle.table_model.specs.Tree.{Path, Tree, held}
 use Rattle.runs.specs.declared.entry.NodeRow.{NodeRow}
 
 -- an index is empty exactly when its bitmap is zero
@@ -66,3 +67,5 @@ pub record Agrees {V : Type 0} (nodes : ℕ → List NodeRow) (vals : ℕ → Li
   pub children : Holds 32 (λ r. r .«child_bitmap») (λ r. r .«children_index») (λ i. length (nodes i)) (find nodes root)
   pub values : Holds 31 (λ r. r .«data_bitmap») (λ r. r .«data_index») (λ i. length (vals i)) (find nodes root)
   pub shallow : (p : Path) (r : NodeRow) → find nodes root p ≡ Some r → length p ≤ 25
+  -- the values in the tree number the entries of the value store
+  pub counted : held (treeOf nodes vals root) ≡ total vals
