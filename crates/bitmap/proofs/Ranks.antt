@@ -2,7 +2,7 @@
 use Rattle.std.proofs.Common.{◌≡◌, ℕ, zero, suc, ◌+◌, ◌-◌, ◌*◌, ◌/◌, ◌%◌, ◌^◌, ◌<◌, ◌≤◌, true, false, eqb, ◌⊎◌, sym, refl, ap, ◌∙◌, inl, inr, add-zero, add-suc, mod-eq_of_lt, pow-suc, one-add, arith}
 use lib.Bits.{bit_or, bit_xor, or_zero_r, xor_zero_r, or_shr, or_mod, xor_shr, xor_mod}
 use native.Mathlib.Decide.{dec_le}
-use Rattle.std.proofs.lemmas.Nat.{mod-pow-add, pow_pos, mod_below, pow-add, shl-shr, div_below, pow_below, or_lt}
+use Rattle.std.proofs.lemmas.Nat.{mod-pow-add, pow_pos, mod_below, pow-add, shl-shr, div_below, pow_below}
 use Rattle.std.proofs.lemmas.Bool.{cond-true, eqb-true, eqb-false, eq-eqb, ne_eqb, lt-ltb}
 use Rattle.bitmap.specs.Ranks.{bit, is_set, rank, with_bit, without_bit, Gains}
 

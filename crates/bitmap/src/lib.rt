@@ -2,6 +2,8 @@
 //
 // A bit number and a slot number are two types. The only way from the one to the other is the rank,
 // `compute_slot`: the run of a node has one entry for each set bit, lowest bit first.
+#![tactic(auto)]
+
 ghost use Rattle.std.specs.Prelude.{◌≡◌, ℕ, ◌<◌, true, false};
 ghost use Rattle.bitmap.specs.Ranks.{bit, is_set, rank, with_bit, without_bit, Gains};
 

@@ -1,4 +1,6 @@
 // Plays scripts of calls on a table and prints one answer a line. docs/CONSOLE.md tells the language.
+#![tactic(auto)]
+
 mod line;
 mod play;
 mod stores;

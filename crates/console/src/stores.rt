@@ -1,6 +1,5 @@
 // Stores by their names in a script, and the table over them.
 ghost use Rattle.std.specs.Prelude.{◌≡◌, ◌≤◌, Ok, vec_len};
-ghost use Rattle.trunk.specs.Meaning.{Sound};
 
 use crate::line::{Kinds, StoreKind};
 use crate::play::play_line;

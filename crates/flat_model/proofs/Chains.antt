@@ -1,5 +1,5 @@
 -- The chain of freed groups through the ledger.
-use Rattle.std.proofs.Common.{◌≡◌, ℕ, zero, suc, ◌+◌, ◌-◌, ◌<◌, ◌≤◌, List, [], ◌∷◌, length, get_or, set, sym, refl, ap, subst, le_of_suc-le-suc, arith, get_or-set_other}
+use Rattle.std.proofs.Common.{◌≡◌, ℕ, zero, suc, ◌-◌, ◌<◌, ◌≤◌, List, [], ◌∷◌, length, get_or, set, sym, refl, ap, subst, le_of_suc-le-suc, arith, get_or-set_other}
 use Rattle.runs.specs.Lists.{at}
 use Rattle.runs.specs.Runs.{tally, one_run}
 use Rattle.runs.specs.Sizes.{one, times}

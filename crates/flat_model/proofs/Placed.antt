@@ -3,7 +3,7 @@ use Rattle.std.proofs.Common.{◌≡◌, ℕ, ◌+◌, ◌≤◌, true, ◌||◌
 use Rattle.std.proofs.lemmas.Bool.{cases_order, leb-true}
 use Rattle.flat_model.specs.Flat.{State, next, some_free, Begins, Valid}
 use Rattle.flat_model.specs.Places.{Group, of_run, of_free, Placed}
-use Rattle.flat_model.proofs.Taking.{whole_apart, head_freed, not_freed}
+use Rattle.flat_model.proofs.Taking.{whole_apart, head_freed}
 
 module _ {E : Type 0} (longest : ℕ) (la : 31 ≤ longest) (lb : longest ≤ 32) (s : State E) (v : Valid longest s) where
   begins : (i : ℕ) → Group s i → Begins longest s.claimed i

@@ -2,7 +2,7 @@
 use Rattle.std.proofs.Common.{◌≡◌, ℕ, ◌+◌, ◌-◌, ◌<◌, ◌≤◌, Bool, true, ◌&&◌, ltb, leb, List, [], length, take, drop, set, Some, None, Ok, Err, Result, sym, refl, ap, ◌∙◌, arith}
 use Rattle.std.proofs.lemmas.Bool.{cond-true, and_from, le-leb, lt-ltb}
 use Rattle.runs.specs.declared.fault.StoreFault.{StoreFault}
-use Rattle.runs.specs.Lists.{indexes, nth, with_new, without}
+use Rattle.runs.specs.Lists.{indexes, nth, without}
 use Rattle.runs.specs.Refusals.{refusal, told}
 use Rattle.runs.specs.Runs.{grows, no_insert, no_remove}
 use Rattle.runs.specs.Calls.{Says}

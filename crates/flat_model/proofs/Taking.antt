@@ -1,12 +1,12 @@
 -- A group taken, a group freed, a run changed in its group: each leads from a state that can be to another.
-use Rattle.std.proofs.Common.{◌≡◌, ℕ, ◌+◌, ◌%◌, ◌<◌, ◌≤◌, Bool, true, false, ◌||◌, leb, ◌⊎◌, List, [], ◌∷◌, length, sym, refl, ap, ◌∙◌, subst, inl, inr, arith}
+use Rattle.std.proofs.Common.{◌≡◌, ℕ, ◌+◌, ◌%◌, ◌<◌, ◌≤◌, true, ◌||◌, leb, List, [], ◌∷◌, length, sym, refl, ap, ◌∙◌, subst, inl, inr, arith}
 use Rattle.std.proofs.lemmas.Bool.{cases_eq, leb-true}
 use Rattle.std.proofs.lemmas.List.{nil_from_length}
 use Rattle.runs.specs.Lists.{indexes, at}
 use Rattle.runs.specs.Sizes.{one, times}
 use Rattle.runs.proofs.Counts.{put_both, put_same, put_other}
 use Rattle.runs.proofs.Sizes.{one_same, one_other}
-use Rattle.flat_model.specs.Flat.{State, next, others, claiming, some_free, fresh, kept, released, held_from, Begins, Valid}
+use Rattle.flat_model.specs.Flat.{State, next, some_free, fresh, kept, released, held_from, Begins, Valid}
 
 -- ---- multiples of the two widths
 

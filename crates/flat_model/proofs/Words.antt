@@ -1,9 +1,9 @@
 -- One word of the ledger written: what becomes of the state, and that the memory stays sound.
-use Rattle.std.proofs.Common.{◌≡◌, ℕ, ◌+◌, ◌-◌, ◌*◌, ◌<◌, ◌≤◌, Bool, true, ◌||◌, leb, List, [], ◌∷◌, length, get_or, take, drop, set, sym, refl, ap, ◌∙◌, subst, inl, inr, arith, length-set, get_or-set_other, get_or-set_same, rules}
+use Rattle.std.proofs.Common.{◌≡◌, ℕ, ◌+◌, ◌-◌, ◌*◌, ◌<◌, ◌≤◌, true, ◌||◌, leb, List, [], ◌∷◌, length, get_or, take, drop, set, sym, refl, ap, ◌∙◌, subst, inl, inr, arith, length-set, get_or-set_other, get_or-set_same, rules}
 use mathlib.Core.Path.{fun_ext}
 use Rattle.std.proofs.lemmas.Bool.{cases_eq, le-leb, leb-true}
 use Rattle.runs.specs.Lists.{indexes, at}
-use Rattle.runs.specs.Runs.{tally, one_run, count}
+use Rattle.runs.specs.Runs.{one_run, count}
 use Rattle.runs.specs.Sizes.{one, times}
 use Rattle.runs.proofs.Counts.{put_same, put_other, tally_put}
 use Rattle.runs.proofs.Sizes.{one_same}

@@ -1,4 +1,6 @@
 // The flat store as its states, and what is proved of them. The store over lent memory is the crate `flat`.
+#![tactic(auto)]
+
 ghost use Rattle.flat_model.specs.Places.{GroupsApart, FlatLawful, FreshValid};
 
 // A store with no run is a state that can be.

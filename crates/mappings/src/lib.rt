@@ -1,5 +1,7 @@
 // What a node keeps in run stores of any kind: the records of its mappings, and the rows of its children.
 // The entry of a bit stands at the bit's rank.
+#![tactic(auto)]
+
 ghost use Rattle.std.specs.Prelude.{◌≡◌, Some};
 ghost use Rattle.bitmap.specs.Ranks.{rank, with_bit, without_bit};
 ghost use Rattle.runs.specs.Lists.{nth};

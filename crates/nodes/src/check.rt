@@ -1,5 +1,5 @@
 // Rows and records: a check makes a record of a row, and a record is written back as a row.
-ghost use Rattle.std.specs.Prelude.{◌≡◌, ◌^◌, ◌<◌, MatchOption};
+ghost use Rattle.std.specs.Prelude.{◌≡◌, ◌<◌, MatchOption};
 ghost use Rattle.table_model.specs.Table.{Passes, bare_row};
 ghost use Rattle.nodes.specs.Records.{row_of};
 

@@ -1,4 +1,6 @@
 // What a table is made of below its stores: the node record, the reading of a path, and what a table refuses.
+#![tactic(auto)]
+
 pub mod check;
 pub mod fault;
 pub mod path;

@@ -1,5 +1,5 @@
 // The node record. Cells hold plain rows; a record is a row that has passed the check.
-ghost use Rattle.std.specs.Prelude.{◌≡◌, ◌^◌, ◌<◌};
+ghost use Rattle.std.specs.Prelude.{◌^◌, ◌<◌};
 ghost use Rattle.table_model.specs.Table.{Tied};
 
 use runs::index::{CellIndex, NodeIndex};

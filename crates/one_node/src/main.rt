@@ -2,6 +2,8 @@
 //
 // Mappings arrive at bits in mixed order until all 31 stand, some are exchanged, and all are taken away again: the run goes through
 // every size up and back. Then two stores that are too small refuse, and the lines show that nothing has changed.
+#![tactic(auto)]
+
 ghost use Rattle.tiered.specs.Meaning.{SoundOf};
 
 use bitmap::{Bit, compute_slot, is_set};

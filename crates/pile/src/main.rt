@@ -1,6 +1,7 @@
 // The same calls on stores alone and under one, two and three quotas: each line has the answers of one pile, so that the refusals
 // 23 (no group) and 24 (limit reached) are seen with the layers that they have crossed.
-ghost use Rattle.std.specs.Result.{MatchResult};
+#![tactic(auto)]
+
 
 use bitmap::Slot;
 use flat::flat::Flat;

@@ -1,4 +1,6 @@
 // What a limit on the entries of a store means, and that it makes a run store of every run store.
+#![tactic(auto)]
+
 ghost use Rattle.runs.specs.Runs.{Lawful};
 ghost use Rattle.quota_model.specs.Quotas.{capped};
 ghost use Rattle.quota_model.specs.Laws.{Crossing, Counted};

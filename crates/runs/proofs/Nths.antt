@@ -1,5 +1,5 @@
 -- What stands at a place of a list.
-use Rattle.std.proofs.Common.{◌≡◌, ℕ, zero, suc, ◌<◌, ◌≤◌, List, [], ◌∷◌, length, get_or, Some, None, sym, refl, ap, ◌∙◌, le_of_suc-le-suc, arith}
+use Rattle.std.proofs.Common.{◌≡◌, ℕ, zero, suc, ◌<◌, ◌≤◌, List, [], ◌∷◌, length, get_or, Some, None, sym, refl, ap, le_of_suc-le-suc, arith}
 use Rattle.runs.specs.Lists.{nth}
 
 pub nth_read : {E : Type 0} (xs : List E) (k : ℕ) (x : E) → k < length xs → x ≡ get_or xs k x → nth xs k ≡ Some x

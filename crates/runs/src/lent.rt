@@ -1,5 +1,5 @@
 // The memory that a store is lent: cells, and a ledger of one word a cell.
-ghost use Rattle.std.specs.Prelude.{◌≡◌, length};
+ghost use Rattle.std.specs.Prelude.{length};
 ghost use Rattle.runs.specs.Calls.{Says, no_store};
 ghost use Rattle.runs.specs.Refusals.{told_lent};
 

@@ -1,5 +1,5 @@
 // Entries moved inside a lent slice, for every kind of entry. A range that does not lie in the slice is refused 21.
-ghost use Rattle.std.specs.Prelude.{◌≡◌, ℕ, ◌+◌, ◌<◌, ◌≤◌, ◌&&◌, ◌||◌, ◌⊎◌, length, nat_le, nat_lt};
+ghost use Rattle.std.specs.Prelude.{◌≡◌, ◌+◌, ◌<◌, ◌≤◌, ◌&&◌, ◌||◌, ◌⊎◌, length, nat_le, nat_lt};
 ghost use Rattle.runs.specs.Lists.{nth};
 ghost use Rattle.runs.specs.Refusals.{told};
 ghost use Rattle.runs.specs.Calls.{Says};

@@ -1,4 +1,6 @@
 // Clients of run stores, proved once from what every store promises.
+#![tactic(auto)]
+
 ghost use Rattle.std.specs.Prelude.{◌≡◌, true, IfOk};
 ghost use Rattle.store_clients.specs.Trips.{ends, whole, Removes, Left};
 ghost use Rattle.runs.specs.Calls.{Says};

@@ -1,4 +1,6 @@
 // Tests of the run stores at their boundaries, for each kind of entry. Every test is proved, and then run.
+#![tactic(auto)]
+
 ghost use Rattle.std.specs.Prelude.{◌≤◌};
 
 use bitmap::Slot;

@@ -1,4 +1,6 @@
 // A table over two run stores: a tree of bitmap nodes whose meaning is a plain tree.
+#![tactic(auto)]
+
 pub mod calls;
 pub mod start;
 

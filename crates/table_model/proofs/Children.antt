@@ -1,13 +1,13 @@
 -- Add and drop: the child part of one record changes, and a bare child comes or goes.
-use Rattle.std.proofs.Common.{◌≡◌, ℕ, zero, suc, ◌+◌, ◌^◌, ◌<◌, ◌≤◌, Bool, true, false, cond, ◌⊎◌, List, [], ◌∷◌, ◌++◌, length, set, Some, None, Option, sym, refl, ap, ◌∙◌, subst, inl, inr, arith}
+use Rattle.std.proofs.Common.{◌≡◌, ℕ, ◌+◌, ◌^◌, ◌<◌, ◌≤◌, true, List, [], ◌∷◌, ◌++◌, length, Some, None, Option, sym, refl, ap, ◌∙◌, inl, inr, arith}
 use Rattle.std.proofs.lemmas.List.{nil_from_length}
-use Rattle.bitmap.specs.Ranks.{bit, rank}
-use Rattle.bitmap.proofs.Ranks.{Added, set_nonzero, rank_up, rank_strict, rank_of_zero, added_high}
-use Rattle.runs.specs.Lists.{empty, at, with_new, without}
-use Rattle.runs.specs.Runs.{Moved, Removing}
-use Rattle.table_model.proofs.Steps.{Growing, Written, Add, AddLaw, Drop, DropLaw}
-use Rattle.table_model.specs.Tree.{Path, Tree, with_path}
-use Rattle.table_model.specs.Table.{bare_row, then, is_some, entry, child, value, find, tree_of, Holds, Agrees}
+use Rattle.bitmap.specs.Ranks.{rank}
+use Rattle.bitmap.proofs.Ranks.{set_nonzero, rank_up, rank_strict, rank_of_zero, added_high}
+use Rattle.runs.specs.Lists.{empty, with_new, without}
+use Rattle.runs.specs.Runs.{Moved}
+use Rattle.table_model.proofs.Steps.{Written, Add, AddLaw, DropLaw}
+use Rattle.table_model.specs.Tree.{Path, with_path}
+use Rattle.table_model.specs.Table.{bare_row, then, is_some, entry, child, value, find, tree_of, Agrees}
 use Rattle.runs.specs.declared.entry.NodeRow.{NodeRow}
 use Rattle.table_model.specs.States.{with_children}
 use Rattle.table_model.proofs.Counting.{tree_same}

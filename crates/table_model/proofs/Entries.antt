@@ -1,5 +1,5 @@
 -- The entries of a run by the bits of its bitmap, as one bit is set or cleared and one entry goes in or out.
-use Rattle.std.proofs.Common.{◌≡◌, ℕ, zero, suc, ◌+◌, ◌-◌, ◌^◌, ◌<◌, ◌≤◌, Bool, true, false, cond, eqb, ◌⊎◌, List, [], ◌∷◌, ◌++◌, length, set, Some, None, Option, sym, refl, ap, ◌∙◌, subst, inl, inr, add-one, arith}
+use Rattle.std.proofs.Common.{◌≡◌, ℕ, suc, ◌^◌, ◌<◌, ◌≤◌, cond, eqb, List, length, set, Some, None, sym, ap, ◌∙◌, inl, inr, add-one, arith}
 use native.Mathlib.Decide.{dec_le}
 use Rattle.bitmap.specs.Ranks.{bit, rank, is_set}
 use Rattle.bitmap.proofs.Ranks.{Added, cases_bit, set_nonzero, added_low, added_high, rank_up, rank_strict, rank_distinct, set_within}

@@ -1,5 +1,5 @@
 -- Every call over two lawful stores.
-use Rattle.std.proofs.Common.{◌≡◌, ℕ}
+use Rattle.std.proofs.Common.{ℕ}
 use Rattle.runs.specs.Runs.{Model, Lawful}
 use Rattle.runs.specs.declared.entry.NodeRow.{NodeRow}
 use Rattle.table_model.specs.Stands.{Calls}

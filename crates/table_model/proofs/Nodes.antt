@@ -1,8 +1,8 @@
 -- The node at a path: what its record says of the tree, and what its stores say to it.
-use Rattle.std.proofs.Common.{◌≡◌, ℕ, zero, suc, ◌+◌, ◌^◌, ◌<◌, ◌≤◌, Bool, true, false, cond, eqb, List, [], ◌∷◌, ◌++◌, length, Some, None, Option, sym, refl, ap, ◌∙◌, subst, inl, inr, arith}
+use Rattle.std.proofs.Common.{◌≡◌, ℕ, ◌+◌, ◌^◌, ◌<◌, ◌≤◌, true, false, eqb, List, [], ◌∷◌, ◌++◌, length, Some, None, Option, sym, ap, ◌∙◌, subst, inl, inr, arith}
 use Rattle.std.proofs.lemmas.Bool.{cond-true, cond-false, eqb-true, eqb-false, eq-eqb, ne_eqb, cases_Bool}
 use Rattle.bitmap.specs.Ranks.{bit, rank, is_set}
-use Rattle.bitmap.proofs.Ranks.{cases_bit, rank_of_zero, none_set, rank_up, rank_strict, rank_beyond, set_within, set_bit, clear_bit}
+use Rattle.bitmap.proofs.Ranks.{rank_of_zero, none_set, rank_up, rank_strict, rank_beyond, set_within, set_bit, clear_bit}
 use Rattle.runs.specs.Lists.{nth}
 use Rattle.runs.specs.Runs.{Model, Lawful, grows, no_insert}
 use Rattle.runs.specs.declared.entry.NodeRow.{NodeRow}

@@ -1,22 +1,21 @@
 -- A record's two parts change with their runs, and the record is written back: the table agrees again, and the tree is read off.
-use Rattle.std.proofs.Common.{◌≡◌, ℕ, zero, suc, ◌+◌, ◌^◌, ◌<◌, ◌≤◌, Bool, true, false, cond, ◌&&◌, eqb, ◌⊎◌, List, [], ◌∷◌, ◌++◌, length, set, Some, None, Option, sym, refl, ap, ◌∙◌, subst, inl, inr, arith}
-use mathlib.Core.Path.{fun_ext}
+use Rattle.std.proofs.Common.{◌≡◌, ℕ, zero, suc, ◌+◌, ◌^◌, ◌<◌, ◌≤◌, cond, ◌⊎◌, List, [], ◌∷◌, ◌++◌, length, Some, None, Option, sym, refl, ap, ◌∙◌, subst, inl, inr, arith}
 use Rattle.std.proofs.lemmas.List.{length_push, append_assoc}
-use Rattle.std.proofs.lemmas.Bool.{cases_eq, cond-true, cond-false}
+use Rattle.std.proofs.lemmas.Bool.{cond-true, cond-false}
 use Rattle.bitmap.specs.Ranks.{bit, rank}
-use Rattle.runs.specs.Lists.{empty, at}
+use Rattle.runs.specs.Lists.{empty}
 use Rattle.runs.specs.Runs.{Moved, total}
 use Rattle.table_model.specs.Tree.{Path, Tree, same_path, below}
-use Rattle.table_model.specs.Table.{bare_row, then, is_some, entry, child, value, find, tree_of, Holds, Agrees}
+use Rattle.table_model.specs.Table.{bare_row, then, is_some, entry, child, value, find, tree_of, Agrees}
 use Rattle.table_model.proofs.Steps.{Written}
 use Rattle.runs.specs.declared.entry.NodeRow.{NodeRow}
 use Rattle.bitmap.proofs.Ranks.{bit_of_zero, set_within}
 use Rattle.table_model.specs.Refusals.{value_count}
 use Rattle.table_model.proofs.Counting.{tree_same, passing_rank, On, Differ, walk_differs}
-use Rattle.table_model.proofs.Paths.{eq_same, ne_same, cases_path, longer}
+use Rattle.table_model.proofs.Paths.{eq_same, ne_same, cases_path}
 use Rattle.table_model.proofs.Entries.{entry_clear, entry_same, entry_some, entry_is}
 use Rattle.table_model.proofs.Finds.{find_snoc}
-use Rattle.table_model.proofs.Holding.{some_same, Step, off_old, off_new, held}
+use Rattle.table_model.proofs.Holding.{Step, off_old, off_new, held}
 use Rattle.table_model.proofs.Found.{changed, changed_here, changed_leaf, changed_else, Change, found_after, leaf_none}
 use Rattle.table_model.proofs.Moves.{moved_new, moved_old, moved_same, moved_free, written_length}
 

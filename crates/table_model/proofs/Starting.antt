@@ -9,7 +9,7 @@ use Rattle.runs.specs.declared.entry.NodeRow.{NodeRow}
 use Rattle.table_model.specs.Refusals.{when, no_start}
 use Rattle.table_model.specs.Table.{bare_row}
 use Rattle.table_model.specs.Tree.{bare}
-use Rattle.table_model.specs.States.{Table, tree_in, Sound}
+use Rattle.table_model.specs.States.{tree_in, Sound}
 use Rattle.table_model.proofs.Whole.{start_law}
 
 -- what a table that may start says of the two counts

@@ -1,25 +1,25 @@
 -- The calls by states, over any two lawful stores.
-use Rattle.std.proofs.Common.{◌≡◌, ℕ, zero, suc, ◌+◌, ◌^◌, ◌<◌, ◌≤◌, Bool, true, false, cond, eqb, ltb, leb, ◌⊎◌, List, [], ◌∷◌, ◌++◌, length, set, Some, None, Option, sym, refl, ap, ◌∙◌, subst, inl, inr, arith}
-use Rattle.std.proofs.lemmas.Bool.{cases_eq, cond-true, cond-false, cond_both, eqb-true, eqb-false, ne_eqb, le-ltb, lt-ltb}
-use Rattle.runs.specs.Runs.{Model, Lawful, grows, shrinks, no_insert, no_entry, no_remove, Removing, Moved}
-use Rattle.runs.specs.Refusals.{Grant, refusal}
-use Rattle.runs.specs.Lists.{at, with_new, without, empty}
+use Rattle.std.proofs.Common.{◌≡◌, ℕ, ◌^◌, ◌<◌, ◌≤◌, true, false, cond, eqb, ltb, List, [], ◌∷◌, ◌++◌, length, Some, None, Option, sym, refl, ap, ◌∙◌, subst, inl, inr, arith}
+use Rattle.std.proofs.lemmas.Bool.{cond-true, cond-false, cond_both, eqb-true, eqb-false, ne_eqb, le-ltb, lt-ltb}
+use Rattle.runs.specs.Runs.{Model, Lawful, grows, shrinks, no_insert, no_entry, no_remove, Moved}
+use Rattle.runs.specs.Refusals.{refusal}
+use Rattle.runs.specs.Lists.{with_new, without, empty}
 use Rattle.bitmap.specs.Ranks.{bit, rank, with_bit, without_bit}
-use Rattle.bitmap.proofs.Ranks.{Added, bit_of_zero, set_nonzero, none_set, set_within, rank_of_zero, rank_up, rank_strict}
+use Rattle.bitmap.proofs.Ranks.{bit_of_zero, set_nonzero, none_set, set_within, rank_of_zero, rank_up, rank_strict}
 use Rattle.table_model.proofs.Bits.{with_added, with_fits, without_taken, without_fits}
-use Rattle.table_model.proofs.Steps.{Growing, opened, inserted, Written, at_root, in_run, Put, Take, Swap, Add, Drop}
+use Rattle.table_model.proofs.Steps.{Growing, opened, inserted, Written, at_root, in_run, Add}
 use Rattle.table_model.specs.Tree.{Path, Tree, with_val, with_path}
-use Rattle.table_model.specs.Table.{bare_row, then, is_some, entry, child, find, tree_of, Holds, Agrees}
+use Rattle.table_model.specs.Table.{bare_row, then, is_some, child, find, Agrees}
 use Rattle.runs.specs.declared.entry.NodeRow.{NodeRow}
 use Rattle.table_model.specs.States.{with_data, with_children, Place, top, slot, descend, Table, grown, written_nodes, written_root, tree_in, put_at, take_at, swap_at, add_at, plant_at, drop_at, Sound}
 use Rattle.table_model.proofs.Nths.{nth_some_in}
 use Rattle.table_model.proofs.Paths.{ends, longer}
 use Rattle.table_model.proofs.Entries.{entry_some, entry_nth}
 use Rattle.table_model.proofs.Finds.{find_nil, find_snoc, then_same, then_then}
-use Rattle.table_model.proofs.Holding.{some_same, off_old, off_new, none_live}
+use Rattle.table_model.proofs.Holding.{some_same, off_old, off_new}
 use Rattle.table_model.proofs.Moves.{moved_same, moved_free, growing_moved, removing_moved}
 use Rattle.table_model.proofs.Rewriting.{empty_run}
-use Rattle.table_model.proofs.Values.{put_law, take_law, swap_law, no_run}
+use Rattle.table_model.proofs.Values.{put_law, take_law, swap_law}
 use Rattle.table_model.proofs.Children.{added_at, added_child, added_law, drop_law, no_node_run}
 
 -- ---- the descent

@@ -1,10 +1,10 @@
 -- The steps on the way to the calls, over plain maps of runs: what each call does, and what it makes of agreement and of the tree.
-use Rattle.std.proofs.Common.{◌≡◌, ℕ, ◌^◌, ◌<◌, ◌≤◌, true, false, List, [], ◌∷◌, ◌++◌, length, set, Some, None, Option}
+use Rattle.std.proofs.Common.{◌≡◌, ℕ, ◌^◌, ◌<◌, ◌≤◌, true, false, List, [], ◌∷◌, ◌++◌, length, set, Some, None}
 use Rattle.bitmap.specs.Ranks.{bit, rank}
 use Rattle.bitmap.proofs.Ranks.{Added}
 use Rattle.runs.specs.Lists.{empty, indexes, at, with_new}
 use Rattle.runs.specs.Runs.{Moved, Removing}
-use Rattle.table_model.specs.Tree.{Path, Tree, bare, with_val, with_path}
+use Rattle.table_model.specs.Tree.{Path, bare, with_val, with_path}
 use Rattle.table_model.specs.Table.{bare_row, find, tree_of, Agrees}
 use Rattle.table_model.specs.States.{with_data, with_children}
 use Rattle.runs.specs.declared.entry.NodeRow.{NodeRow}

@@ -1,21 +1,20 @@
 -- Put, take and swap: the data part of one record changes.
-use Rattle.std.proofs.Common.{◌≡◌, ℕ, zero, suc, ◌+◌, ◌^◌, ◌<◌, ◌≤◌, Bool, true, false, cond, ◌&&◌, eqb, ◌⊎◌, List, [], ◌∷◌, ◌++◌, length, set, Some, None, Option, sym, refl, ap, ◌∙◌, subst, inl, inr, arith, length-set}
-use mathlib.Core.Path.{fun_ext}
+use Rattle.std.proofs.Common.{◌≡◌, ℕ, ◌+◌, ◌^◌, ◌<◌, ◌≤◌, false, cond, ◌&&◌, eqb, List, [], ◌∷◌, ◌++◌, length, set, Some, None, Option, sym, refl, ap, ◌∙◌, subst, inl, inr, arith, length-set}
 use Rattle.std.proofs.lemmas.Bool.{cases_eq, cond-true, cond-false, eq-eqb, ne_eqb, and_from, and_left, and_right}
 use Rattle.std.proofs.lemmas.List.{nil_from_length}
 use Rattle.bitmap.specs.Ranks.{bit, rank}
-use Rattle.bitmap.proofs.Ranks.{Added, bit_past, set_nonzero, set_within, none_set, rank_up, rank_strict, rank_of_zero, added_high}
-use Rattle.runs.specs.Lists.{empty, indexes, at, nth, with_new, without}
+use Rattle.bitmap.proofs.Ranks.{bit_past, set_nonzero, set_within, none_set, rank_up, rank_strict, rank_of_zero, added_high}
+use Rattle.runs.specs.Lists.{empty, indexes, nth, with_new, without}
 use Rattle.runs.specs.Runs.{total, Moved, Removing, ended, left}
-use Rattle.table_model.proofs.Steps.{Growing, Written, Put, PutLaw, Take, TakeLaw, Swap, SwapLaw}
-use Rattle.table_model.specs.Tree.{Path, Tree, same_path, with_val}
-use Rattle.table_model.specs.Table.{bare_row, then, is_some, entry, child, value, find, tree_of, Holds, Agrees}
+use Rattle.table_model.proofs.Steps.{Written, PutLaw, TakeLaw, SwapLaw}
+use Rattle.table_model.specs.Tree.{Path, same_path, with_val}
+use Rattle.table_model.specs.Table.{then, is_some, entry, child, value, find, tree_of, Agrees}
 use Rattle.runs.specs.declared.entry.NodeRow.{NodeRow}
 use Rattle.table_model.specs.States.{with_data}
 use Rattle.table_model.proofs.Counting.{tree_same}
 use Rattle.table_model.proofs.Nths.{nth_in, length_new, length_without}
 use Rattle.table_model.proofs.Paths.{eq_same, ne_same, cases_path}
-use Rattle.table_model.proofs.Entries.{entry_set, entry_some, entry_clear, new_here, new_other, less_here, less_other, other_here, other_other}
+use Rattle.table_model.proofs.Entries.{entry_set, entry_clear, new_here, new_other, less_here, less_other, other_here, other_other}
 use Rattle.table_model.proofs.Finds.{find_snoc}
 use Rattle.table_model.proofs.Holding.{none_live}
 use Rattle.table_model.proofs.Moves.{moved_new, moved_in_place, unmoved, growing_moved, removing_moved, low_index, written_same, moved_total}

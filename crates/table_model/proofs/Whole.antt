@@ -1,18 +1,17 @@
 -- Start, plant, and what a node's record shows of the tree.
-use Rattle.std.proofs.Common.{◌≡◌, ℕ, zero, suc, ◌+◌, ◌^◌, ◌<◌, ◌≤◌, Bool, true, false, cond, eqb, ◌⊎◌, List, [], ◌∷◌, ◌++◌, length, set, Some, None, Option, sym, refl, ap, ◌∙◌, subst, inl, inr, arith}
+use Rattle.std.proofs.Common.{◌≡◌, ℕ, suc, ◌^◌, ◌<◌, Bool, true, cond, List, [], ◌∷◌, ◌++◌, length, Some, None, Option, sym, refl, ap, ◌∙◌, subst, arith}
 use mathlib.Core.Path.{fun_ext}
 use Rattle.std.proofs.lemmas.List.{length_push}
-use Rattle.bitmap.specs.Ranks.{bit, rank, is_set}
-use Rattle.bitmap.proofs.Ranks.{Added, cases_bit, bit_of_zero, rank_of_zero, rank_strict, set_within}
-use Rattle.runs.specs.Lists.{empty, indexes, at, nth}
+use Rattle.bitmap.specs.Ranks.{rank}
+use Rattle.bitmap.proofs.Ranks.{bit_of_zero, rank_of_zero, set_within}
+use Rattle.runs.specs.Lists.{empty, indexes}
 use Rattle.runs.specs.Runs.{total}
 use Rattle.runs.proofs.Counts.{tally_none}
-use Rattle.table_model.specs.Tree.{Path, Tree, Plain, followed, same_path, bare, below, with_val, with_path}
-use Rattle.table_model.specs.Table.{bare_row, then, is_some, entry, child, value, find, tree_of, Holds, Agrees}
-use Rattle.table_model.specs.Laws.{Shown, ShowLaw, PlainLaw, Stopped, StopLaw}
-use Rattle.table_model.proofs.Steps.{Written, StartLaw, Plant, PlantLaw}
+use Rattle.table_model.specs.Tree.{Path, Tree, followed, same_path, bare, below, with_val}
+use Rattle.table_model.specs.Table.{bare_row, then, is_some, entry, child, value, find, tree_of, Holds}
+use Rattle.table_model.specs.Laws.{ShowLaw, PlainLaw, StopLaw}
+use Rattle.table_model.proofs.Steps.{StartLaw, PlantLaw}
 use Rattle.runs.specs.declared.entry.NodeRow.{NodeRow}
-use Rattle.table_model.proofs.Nths.{nth_in}
 use Rattle.table_model.proofs.Entries.{entry_set, entry_some, entry_clear, entry_is}
 use Rattle.table_model.proofs.Finds.{find_nil, find_snoc}
 use Rattle.table_model.proofs.Holding.{some_same}

@@ -1,6 +1,6 @@
 -- The calls on a table by the states of its two stores: what each refuses, and the states that it leads to where it is accepted.
 -- What it means on the plain tree stands with the call's contract.
-use Rattle.std.specs.Prelude.{ℕ, List, Option}
+use Rattle.std.specs.Prelude.{ℕ, Option}
 use Rattle.runs.specs.Refusals.{Grant}
 use Rattle.runs.specs.Runs.{Model, grows, shrinks}
 use Rattle.runs.specs.declared.entry.NodeRow.{NodeRow}

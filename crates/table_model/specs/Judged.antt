@@ -1,13 +1,13 @@
 -- What a call knows once it has been judged, before anything is written: the node's place and record, and that its stores have said yes.
 -- Only the steps inside a table lean on these; no call's contract does.
-use Rattle.std.specs.Prelude.{◌≡◌, ℕ, ◌<◌, Bool, true, false, cond, length, Some, None, ◌==◌}
+use Rattle.std.specs.Prelude.{◌≡◌, ℕ, ◌<◌, true, false, cond, length, Some, None, ◌==◌}
 use Rattle.bitmap.specs.Ranks.{is_set, rank}
 use Rattle.runs.specs.Refusals.{Grant}
 use Rattle.runs.specs.Runs.{Model, grows, shrinks, no_insert, no_entry}
 use Rattle.runs.specs.declared.entry.NodeRow.{NodeRow}
 use Rattle.table_model.specs.Tree.{Path}
 use Rattle.table_model.specs.Table.{bare_row, child}
-use Rattle.table_model.specs.Refusals.{no_path, no_place}
+use Rattle.table_model.specs.Refusals.{no_place}
 use Rattle.table_model.specs.States.{Place, top, slot, Table, tree_in}
 use Rattle.table_model.specs.Calls.{way, get_no, put_no, take_no, add_no, plant_no, drop_no}
 

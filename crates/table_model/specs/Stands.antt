@@ -1,5 +1,5 @@
 -- Every call on a table over two stores, by their states: from a sound table to a sound table, and to the tree that the call means.
-use Rattle.std.specs.Prelude.{◌≡◌, ℕ, ◌<◌, true, false, List, [], ◌∷◌, ◌++◌, length, Some, None, Option}
+use Rattle.std.specs.Prelude.{◌≡◌, ℕ, ◌<◌, true, false, [], ◌∷◌, ◌++◌, length, Some, None}
 use Rattle.runs.specs.Runs.{Model, grows, shrinks}
 use Rattle.bitmap.specs.Ranks.{bit, rank}
 use Rattle.table_model.specs.Tree.{Path, Tree, bare, with_val, with_path}

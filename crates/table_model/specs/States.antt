@@ -1,5 +1,5 @@
 -- The calls on a table by the states of its two stores.
-use Rattle.std.specs.Prelude.{◌≡◌, ℕ, cond, List, [], ◌∷◌, ◌++◌, Some, None, Option, ◌==◌}
+use Rattle.std.specs.Prelude.{ℕ, cond, List, [], ◌∷◌, Some, None, Option, ◌==◌}
 use Rattle.runs.specs.Runs.{Model}
 use Rattle.bitmap.specs.Ranks.{rank, with_bit, without_bit}
 use Rattle.table_model.specs.Tree.{Path, Tree}

@@ -1,5 +1,5 @@
 -- The tree that a table means: its root record and the live runs of its two stores.
-use Rattle.std.specs.Prelude.{◌≡◌, ℕ, ◌^◌, ◌<◌, ◌≤◌, Bool, true, false, cond, List, [], ◌∷◌, ◌++◌, length, Some, None, Option, ◌≢◌}
+use Rattle.std.specs.Prelude.{◌≡◌, ℕ, ◌^◌, ◌<◌, ◌≤◌, Bool, true, false, cond, List, [], ◌∷◌, length, Some, None, Option, ◌≢◌}
 use Rattle.bitmap.specs.Ranks.{is_set, rank}
 use Rattle.runs.specs.Lists.{empty, nth}
 use Rattle.runs.specs.Runs.{total}

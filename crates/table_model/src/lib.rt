@@ -1,4 +1,6 @@
 // What the calls on a table make of the plain tree that it means, over any two lawful stores.
+#![tactic(auto)]
+
 ghost use Rattle.table_model.specs.Stands.{Calls};
 ghost use Rattle.table_model.specs.Laws.{ShowLaw, PlainLaw, StopLaw};
 

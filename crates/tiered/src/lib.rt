@@ -2,6 +2,8 @@
 //
 // A ledger word is the number of entries of the run that begins at its cell, or, for a freed group, 64 times the link to the
 // group of its size that was freed before it. A call asks first and writes then: the steps below are made only where every check has said yes.
+#![tactic(auto)]
+
 ghost use Rattle.std.specs.Prelude.{◌≡◌, ◌+◌, ◌-◌, ◌<◌, ◌≤◌, min, true, ◌++◌, length, take, drop, Some, None, ◌≢◌, slice_set};
 ghost use Rattle.runs.specs.Lists.{nth, with_new, without};
 ghost use Rattle.runs.specs.Refusals.{told};

@@ -13,7 +13,7 @@ use Rattle.runs.proofs.Counts.{put_both, put_same, put_other, tally_put}
 use Rattle.runs.proofs.Sizes.{one_same, one_other, size_room, sizes, capacity_low}
 use Rattle.tiered_model.proofs.Taking.{low, held_valid, ended_valid, kept_valid}
 use Rattle.tiered_model.proofs.Placed.{placed}
-use Rattle.tiered_model.specs.Ledger.{len_w, link_w, run_at, chain, Linked, freed, state_of, Sound}
+use Rattle.tiered_model.specs.Ledger.{len_w, link_w, run_at, Linked, freed, state_of, Sound}
 use Rattle.tiered_model.proofs.Chains.{chain_short, chain_is, linked_set, front_of, link_low, none_linked}
 use Rattle.tiered_model.proofs.Gaps.{window_len, window_at}
 

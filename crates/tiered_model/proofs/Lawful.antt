@@ -1,17 +1,17 @@
 -- The tiered store's states are those of a run store, and its claimed cells are the most groups of each size that stood together.
-use Rattle.std.proofs.Common.{◌≡◌, ℕ, zero, suc, ◌+◌, ◌-◌, ◌*◌, ◌<◌, ◌≤◌, max, Bool, true, false, cond, ◌||◌, eqb, leb, ◌⊎◌, List, [], ◌∷◌, ◌++◌, length, take, drop, set, Some, None, sym, refl, ap, ◌∙◌, subst, inl, inr, arith, length-append, length-drop, length-set, length-take}
+use Rattle.std.proofs.Common.{◌≡◌, ℕ, ◌+◌, ◌-◌, ◌<◌, ◌≤◌, max, Bool, true, false, cond, eqb, leb, List, [], ◌∷◌, length, set, None, sym, refl, ap, ◌∙◌, arith, length-append, length-drop, length-set, length-take}
 use mathlib.Core.Path.{fun_ext}
-use Rattle.std.proofs.lemmas.Bool.{cases_eq, eqb-true, eqb-false, cond-false, ne_eqb, lt-leb}
-use Rattle.runs.specs.Refusals.{Grant, refusal}
+use Rattle.std.proofs.lemmas.Bool.{eqb-true, eqb-false, cond-false, ne_eqb, lt-leb}
+use Rattle.runs.specs.Refusals.{refusal}
 use Rattle.runs.specs.Runs.{Lawful, Removing, ended, left, grows, no_entry, no_insert, no_remove}
-use Rattle.runs.specs.Lists.{at, with_new, without}
-use Rattle.runs.specs.Sizes.{size, capacities, one, times}
+use Rattle.runs.specs.Lists.{with_new, without}
+use Rattle.runs.specs.Sizes.{size, capacities, times}
 use Rattle.tiered_model.specs.Tiered.{State, fresh, tiered, has, can, change, growth, shrinkage, put, put_to, size_at}
-use Rattle.tiered_model.specs.Groups.{of_size, standing, groups, Valid, Most, cells_of}
+use Rattle.tiered_model.specs.Groups.{of_size, standing, groups, Valid, Most}
 use Rattle.tiered_model.specs.Laws.{Call, exchanging, opening, inserting, removing, Reached, begun, called, Claims}
-use Rattle.runs.proofs.Counts.{put_same, tally_none}
+use Rattle.runs.proofs.Counts.{tally_none}
 use Rattle.runs.proofs.Sizes.{one_same}
-use Rattle.tiered_model.proofs.Weights.{weigh_same, weigh_none}
+use Rattle.tiered_model.proofs.Weights.{weigh_same}
 use Rattle.tiered_model.proofs.Taking.{fresh_valid, low, group_free, held_valid, held_most, ended_valid, ended_most, kept_valid, kept_most}
 use Rattle.tiered_model.proofs.Asking.{none_else, grow_length, shrink_length, grows_is, insert_told, exchange_told, remove_told}
 use Rattle.tiered_model.proofs.Moving.{Put, puts}

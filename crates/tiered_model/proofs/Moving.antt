@@ -1,14 +1,14 @@
 -- A run that is put in place of another, in its group or in another one.
-use Rattle.std.proofs.Common.{◌≡◌, ℕ, zero, suc, ◌+◌, ◌-◌, ◌*◌, ◌<◌, ◌≤◌, max, Bool, true, false, cond, ◌||◌, eqb, leb, ◌⊎◌, List, [], ◌∷◌, ◌++◌, length, Some, None, sym, refl, ap, ◌∙◌, subst, inl, inr, arith}
+use Rattle.std.proofs.Common.{◌≡◌, ℕ, ◌≤◌, Bool, true, false, cond, eqb, List, [], ◌∷◌, length, None, sym, refl, ap, ◌∙◌, inl, inr, arith}
 use mathlib.Core.Path.{fun_ext}
 use Rattle.std.proofs.lemmas.Bool.{cases_eq, eqb-true, eqb-false}
-use Rattle.runs.specs.Refusals.{Grant, refusal}
+use Rattle.runs.specs.Refusals.{refusal}
 use Rattle.runs.specs.Lists.{at}
-use Rattle.runs.specs.Sizes.{size, one}
-use Rattle.tiered_model.specs.Tiered.{State, group, held, ended, kept, has, can, change, moved, moved_to, put, put_to, size_at}
-use Rattle.tiered_model.specs.Groups.{standing, groups, Valid, Most}
+use Rattle.runs.specs.Sizes.{size}
+use Rattle.tiered_model.specs.Tiered.{State, group, held, ended, kept, has, can, change, put, put_to, size_at}
+use Rattle.tiered_model.specs.Groups.{Valid, Most}
 use Rattle.runs.proofs.Counts.{put_both, put_same, put_other}
-use Rattle.runs.proofs.Sizes.{one_same, one_other}
+use Rattle.runs.proofs.Sizes.{one_other}
 use Rattle.tiered_model.proofs.Taking.{gone, group_free, held_valid, held_most, held_standing, ended_valid, ended_groups, ended_standing, kept_valid, kept_most}
 use Rattle.tiered_model.proofs.Asking.{none_else}
 

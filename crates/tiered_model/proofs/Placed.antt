@@ -1,7 +1,7 @@
 -- Where the groups of a state are.
-use Rattle.std.proofs.Common.{◌≡◌, ℕ, ◌+◌, ◌<◌, ◌≤◌, Bool, true, false, ◌||◌, leb, ◌⊎◌, List, [], ◌∷◌, length, sym, refl, ap, ◌∙◌, inl, inr, arith}
+use Rattle.std.proofs.Common.{◌≡◌, ℕ, ◌+◌, ◌≤◌, true, ◌||◌, leb, ◌⊎◌, List, [], ◌∷◌, length, sym, refl, ap, ◌∙◌, inl, inr, arith}
 use Rattle.std.proofs.lemmas.Bool.{cases_eq, cases_order, leb-true}
-use Rattle.runs.specs.Sizes.{size, times, one}
+use Rattle.runs.specs.Sizes.{size, times}
 use Rattle.tiered_model.specs.Tiered.{State, has_free, first_free}
 use Rattle.tiered_model.specs.Groups.{Valid}
 use Rattle.tiered_model.specs.Laws.{Group, of_run, of_free, Placed}

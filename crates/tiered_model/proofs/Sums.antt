@@ -1,16 +1,14 @@
 -- An answer is yes exactly where the sum of the groups, as the call would leave it, is at most the cells lent.
-use Rattle.std.proofs.Common.{◌≡◌, ℕ, ◌+◌, ◌-◌, ◌<◌, ◌≤◌, max, Bool, true, false, cond, ◌||◌, eqb, leb, ◌⊎◌, List, [], ◌∷◌, length, Some, None, sym, refl, ap, ◌∙◌, subst, inl, inr, arith}
+use Rattle.std.proofs.Common.{◌≡◌, ℕ, ◌+◌, ◌-◌, ◌≤◌, max, Bool, true, false, cond, ◌||◌, eqb, leb, List, [], ◌∷◌, length, Some, None, sym, refl, ap, ◌∙◌, inl, inr, arith}
 use Rattle.std.proofs.lemmas.Bool.{cases_eq, eqb-true, eqb-false, cond-true, cond-false, ne_eqb, lt-leb, le-leb, leb-true}
 use Rattle.runs.specs.Refusals.{Grant, refusal}
-use Rattle.runs.specs.Lists.{at}
 use Rattle.runs.specs.Runs.{grows, shrinks}
 use Rattle.runs.specs.Sizes.{size, capacities, one}
-use Rattle.tiered_model.specs.Tiered.{State, tiered, has_free, has, can, change, growth, shrinkage, size_at}
-use Rattle.tiered_model.specs.Groups.{weigh, standing, standing_in, groups, cells_of, Valid}
-use Rattle.tiered_model.specs.Laws.{Iff, sum_after, Counted}
+use Rattle.tiered_model.specs.Tiered.{State, tiered, has_free, can, change}
+use Rattle.tiered_model.specs.Groups.{weigh, standing, groups, cells_of, Valid}
+use Rattle.tiered_model.specs.Laws.{Iff, Counted}
 use Rattle.runs.proofs.Sizes.{one_same, one_other}
 use Rattle.tiered_model.proofs.Weights.{weigh_same, weigh_plus, size_weigh}
-use Rattle.tiered_model.proofs.Taking.{standing_new, standing_end, live_low}
 use Rattle.tiered_model.proofs.Asking.{none_else, grows_is, shrinks_is}
 
 answer_at : {Q : Type 0} (a b : Grant) → a ≡ b → Iff (b ≡ None) Q → Iff (a ≡ None) Q

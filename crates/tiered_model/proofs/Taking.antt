@@ -1,11 +1,10 @@
 -- A group taken, a group freed, a run changed within its group: each keeps the states that can be, and the counts of groups.
-use Rattle.std.proofs.Common.{◌≡◌, ℕ, zero, suc, ◌+◌, ◌-◌, ◌*◌, ◌<◌, ◌≤◌, max, Bool, true, false, cond, ◌||◌, eqb, leb, ◌⊎◌, List, [], ◌∷◌, ◌++◌, length, sym, refl, ap, ◌∙◌, subst, inl, inr, arith}
-use Rattle.std.proofs.lemmas.Bool.{cond_both, cases_eq, leb-true}
+use Rattle.std.proofs.Common.{◌≡◌, ℕ, ◌+◌, ◌<◌, ◌≤◌, true, cond, ◌||◌, eqb, leb, List, [], ◌∷◌, length, sym, refl, ap, ◌∙◌, inl, inr, arith}
+use Rattle.std.proofs.lemmas.Bool.{cases_eq, leb-true}
 use Rattle.runs.specs.Lists.{at}
-use Rattle.runs.specs.Runs.{tally}
 use Rattle.runs.specs.Sizes.{size, capacities, one, times}
-use Rattle.tiered_model.specs.Tiered.{State, fresh, first_free, rest_free, now_claimed, has_free, group, held_from, held, ended, kept, has}
-use Rattle.tiered_model.specs.Groups.{of_size, weigh, standing_in, standing, groups, cells_of, Valid, Most}
+use Rattle.tiered_model.specs.Tiered.{State, fresh, first_free, has_free, held_from, ended, kept}
+use Rattle.tiered_model.specs.Groups.{of_size, weigh, standing_in, standing, groups, Valid, Most}
 use Rattle.runs.proofs.Counts.{put_both, put_same, put_other, tally_put, tally_none}
 use Rattle.runs.proofs.Sizes.{one_same, one_other, size_room}
 use Rattle.tiered_model.proofs.Weights.{weigh_same, weigh_plus, weigh_none, size_weigh}

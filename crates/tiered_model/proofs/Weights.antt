@@ -1,5 +1,5 @@
 -- Sums over the sizes.
-use Rattle.std.proofs.Common.{◌≡◌, ℕ, zero, suc, ◌+◌, ◌*◌, ◌<◌, ◌≤◌, Bool, true, eqb, List, [], ◌∷◌, sym, refl, ap, ◌∙◌, inl, inr, mul-zero, mul-add, arith}
+use Rattle.std.proofs.Common.{◌≡◌, ℕ, zero, suc, ◌+◌, ◌*◌, ◌<◌, ◌≤◌, Bool, true, eqb, List, [], ◌∷◌, refl, ap, inl, inr, mul-zero, mul-add, arith}
 use Rattle.std.proofs.lemmas.Bool.{cases_eq, eqb-true}
 use Rattle.runs.specs.Sizes.{size, capacities, one}
 use Rattle.runs.proofs.Sizes.{every, every_at}

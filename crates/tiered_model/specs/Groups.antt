@@ -1,5 +1,5 @@
 -- The groups of a tiered store: which states can be, how many groups of a size stand, and how many have been made.
-use Rattle.std.specs.Prelude.{◌≡◌, ℕ, zero, suc, ◌+◌, ◌*◌, ◌<◌, ◌≤◌, max, List, [], ◌∷◌, length}
+use Rattle.std.specs.Prelude.{◌≡◌, ℕ, suc, ◌+◌, ◌*◌, ◌<◌, ◌≤◌, max, List, [], ◌∷◌, length}
 use Rattle.runs.specs.Runs.{tally}
 use Rattle.runs.specs.Sizes.{size, capacities, one, times}
 use Rattle.tiered_model.specs.Tiered.{State}

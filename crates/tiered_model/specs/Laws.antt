@@ -1,10 +1,9 @@
 -- What is proved of the tiered store's states.
-use Rattle.std.specs.Prelude.{◌≡◌, ℕ, ◌+◌, ◌<◌, ◌≤◌, max, true, ◌⊎◌, List, [], ◌∷◌, length, None, ◌≢◌}
-use Rattle.runs.specs.Runs.{Lawful, grows, shrinks, no_entry, no_insert, no_remove, tally}
-use Rattle.runs.specs.Lists.{at}
+use Rattle.std.specs.Prelude.{◌≡◌, ℕ, ◌+◌, ◌<◌, ◌≤◌, max, true, ◌⊎◌, [], length, None, ◌≢◌}
+use Rattle.runs.specs.Runs.{Lawful, grows, shrinks, no_entry, no_insert, no_remove}
 use Rattle.tiered_model.specs.Tiered.{State, fresh, tiered, has, group}
-use Rattle.runs.specs.Sizes.{size, capacities, one, times}
-use Rattle.tiered_model.specs.Groups.{Valid, Most, groups, standing, standing_in, cells_of}
+use Rattle.runs.specs.Sizes.{size, one, times}
+use Rattle.tiered_model.specs.Groups.{Valid, Most, groups, standing, cells_of}
 
 abbrev pub FreshValid : Type 0 → Type 0
 FreshValid E = (longest cells : ℕ) → cells ≤ 16777216 → Valid {E = E} longest (fresh cells)

@@ -1,7 +1,7 @@
 // The tiered store as a pure definition: its states, the laws of a run store that they keep, and its claimed cells.
-ghost use Rattle.std.specs.Prelude.{ℕ, ◌≤◌};
+#![tactic(auto)]
+
 ghost use Rattle.tiered_model.specs.Laws.{FreshValid, TieredLawful, ClaimsStand, AnswersStand, PlacedStands};
-ghost use Rattle.tiered_model.specs.Ledger.{Sound};
 
 pub fn fresh_stands<V: Copy>() -> u8
     ensures { FreshValid V }

@@ -1,5 +1,7 @@
 // The inside of a table: two run stores with the root's record, and the steps that the calls on a table are made of. A call is judged first, by a
 // step that changes nothing, and then done, by one that leans on what was judged: these have requirements that only a table's calls meet.
+#![tactic(auto)]
+
 pub mod descent;
 pub mod judge;
 pub mod run;

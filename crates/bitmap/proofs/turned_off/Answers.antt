@@ -1,12 +1,11 @@
-use Rattle.std.proofs.Common.{◌≡◌, ℕ, ◌*◌, ◌%◌, ◌^◌, ◌<◌, sym, ap, ◌∙◌, arith}
+use Rattle.std.proofs.Common.{◌≡◌, ◌*◌, ◌%◌, ◌^◌, sym, ap, ◌∙◌, arith}
 use lib.Bits.{bit_xor}
 use Rattle.std.proofs.lemmas.Nat.{one_shl}
-use Rattle.bitmap.specs.Ranks.{Gains}
 use Rattle.bitmap.proofs.Ranks.{without_bit_is, xor_taken, gained, set_bit, set_within}
 use Rattle.bitmap.proofs.turned_off.Goals as goal
 
-pub overflow-shl-result : goal.overflow-shl-result
-overflow-shl-result c = set_within c.args.bitmap c.args.n 32 (omega arith) (set_bit c.args.bitmap c.args.n c.requires)
+pub overflow_shl-result : goal.overflow_shl-result
+overflow_shl-result c = set_within c.args.bitmap c.args.n 32 (omega arith) (set_bit c.args.bitmap c.args.n c.requires)
 
 pub returns : goal.returns
 returns c =

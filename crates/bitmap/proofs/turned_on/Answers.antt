@@ -1,7 +1,6 @@
-use Rattle.std.proofs.Common.{◌≡◌, ℕ, ◌*◌, ◌%◌, ◌^◌, sym, ap, ◌∙◌}
+use Rattle.std.proofs.Common.{◌≡◌, ◌*◌, ◌%◌, ◌^◌, sym, ap, ◌∙◌}
 use lib.Bits.{bit_or}
 use Rattle.std.proofs.lemmas.Nat.{one_shl}
-use Rattle.bitmap.specs.Ranks.{Gains}
 use Rattle.bitmap.proofs.Ranks.{with_bit_is, or_added, gained, clear_bit}
 use Rattle.bitmap.proofs.turned_on.Goals as goal
 

@@ -11,6 +11,6 @@ returns g c =
     let over : State b.State → State (State b.State) = λ s. record { limit = c.args.outer; below = s } in
     record {
       answer = lower.answer;
-      trip = c.there-and-back-back.ensures.answer
+      trip = c.there_and_back-back.ensures.answer
           ∙ ap (λ s. whole (capped (capped b.model)) s c.args.first c.args.second) (upper.after.after ∙ ap over lower.after.after);
     }

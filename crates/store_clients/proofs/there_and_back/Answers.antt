@@ -7,7 +7,7 @@ pub returns : goal.returns
 returns g c =
     let b = g.S.RunStore in
     let t = c.args.store.now in
-    let o = c.go-and-return.ensures in
+    let o = c.go_and_return.ensures in
     let e = ending b.lawful (b.state t) (b.valid t c.requires) c.args.first c.args.second in
     let at = ap (λ s. b.model.live s) o.after in
     record {

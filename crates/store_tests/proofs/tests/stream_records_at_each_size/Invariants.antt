@@ -2,4 +2,4 @@ use Rattle.std.proofs.Common.{◌≡◌, length}
 use Rattle.store_tests.proofs.tests.stream_records_at_each_size.Given as goal
 
 abbrev pub invariant-loop-n : goal.invariant-loop-n
-invariant-loop-n l = (length l.cells ≡ 90) × (length l.ledger ≡ 90)
+invariant-loop-n g l = (length l.cells ≡ 90) × (length l.ledger ≡ 90)

@@ -1,4 +1,4 @@
-use Rattle.std.proofs.Common.{◌≡◌, sym, refl, ap, ◌∙◌, subst}
+use Rattle.std.proofs.Common.{sym, refl, ap, ◌∙◌, subst}
 use Rattle.runs.specs.Runs.{count}
 use Rattle.table_model.specs.Refusals.{no_start}
 use Rattle.table_model.specs.Table.{Agrees, bare_row}

@@ -1,6 +1,6 @@
 use Rattle.runs.specs.Refusals.{told}
 use Rattle.std.proofs.Common.{ℕ, ap, ◌∙◌, arith}
-use Rattle.tiered.proofs.Tiered.may_shrink.Goals.{then-n-eq0-via-then-n-eq0, then-n-eq0-via-else-n-eq0+then-n-longest-run}
+use Rattle.tiered.proofs.Tiered.may_shrink.Goals.{then-n-eq0-via-then-n-eq0, then-n-eq0-via-else-n-eq0+then-n-longest_run}
 use Rattle.tiered.proofs.Tiered.may_shrink.Goals as goal
 use Rattle.runs.specs.Sizes.{size}
 use Rattle.tiered_model.specs.Tiered.{change}
@@ -10,7 +10,7 @@ use Rattle.tiered_model.proofs.Questions.{shrinks_none, shrinks_beyond, shrinks_
 pub returns-then-n-eq0 : goal.returns-then-n-eq0
 returns-then-n-eq0 g c = elim c.then-n-eq0.branch [
   | then-n-eq0-via-then-n-eq0 w ↦ shrinks_none g.E.Entry.longest (StateOf c.args.self.now) c.args.n w.if-n-eq0.true
-  | then-n-eq0-via-else-n-eq0+then-n-longest-run w ↦ shrinks_beyond g.E.Entry.longest (StateOf c.args.self.now) c.args.n (omega (arith, w.if-n-longest-run.true, w.longest-run.ensures))
+  | then-n-eq0-via-else-n-eq0+then-n-longest_run w ↦ shrinks_beyond g.E.Entry.longest (StateOf c.args.self.now) c.args.n (omega (arith, w.if-n-longest_run.true, w.longest_run.ensures))
 ]
 
 pub returns-then-n-eq1 : goal.returns-then-n-eq1
@@ -19,4 +19,4 @@ returns-then-n-eq1 g c = shrinks_last g.E.Entry.longest (StateOf c.args.self.now
 pub returns : goal.returns
 returns g c =
     let o = ap (λ (z : ℕ). change (StateOf c.args.self.now) z c.size-2.result) c.size.ensures ∙ ap (λ (y : ℕ). change (StateOf c.args.self.now) (size g.E.Entry.longest c.args.n) y) c.size-2.ensures in
-    says_as told _ _ _ (o ∙ shrinks_on g.E.Entry.longest (StateOf c.args.self.now) c.args.n (omega (arith, c.if-n-eq0.false, c.if-n-eq1.false)) (omega arith)) c.may-change.ensures
+    says_as told _ _ _ (o ∙ shrinks_on g.E.Entry.longest (StateOf c.args.self.now) c.args.n (omega (arith, c.if-n-eq0.false, c.if-n-eq1.false)) (omega arith)) c.may_change.ensures

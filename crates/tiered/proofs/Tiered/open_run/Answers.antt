@@ -4,8 +4,8 @@ use Rattle.tiered.specs.Meaning.{StateOf}
 use Rattle.tiered_model.proofs.Changes.{new_fits}
 use Rattle.tiered_model.proofs.Moves.{open_may, held_live, opened_all}
 
-pub take-group-at-requires : goal.take-group-at-requires
-take-group-at-requires g c = record {
+pub take_group-at-requires : goal.take_group-at-requires
+take_group-at-requires g c = record {
   sound = c.requires.sound;
   long = (omega arith, omega (arith, g.E.Entry.wide));
   sized = refl;
@@ -14,25 +14,25 @@ take-group-at-requires g c = record {
 
 pub replace-requires : goal.replace-requires
 replace-requires g c =
-    let xs = take 1 (drop c.take-group-at.result c.args.self.now.cells.now) in
+    let xs = take 1 (drop c.take_group-at.result c.args.self.now.cells.now) in
     let had = open_may g.E.Entry.longest (StateOf c.args.self.now) (omega (arith, g.E.Entry.wide)) c.requires.may in
     let fit : length xs ≡ 1 =
-    ap (λ (j : ℕ). length (take 1 (drop j c.args.self.now.cells.now))) c.take-group-at.ensures.group
+    ap (λ (j : ℕ). length (take 1 (drop j c.args.self.now.cells.now))) c.take_group-at.ensures.group
     ∙ new_fits g.E.Entry.longest g.E.Entry.wide g.E.Entry.narrow _ _ _ _ _ c.requires.sound 1 1 (omega arith) (omega (arith, g.E.Entry.wide)) refl had in
     record {
-      sound = c.take-group-at.ensures.sound;
-      slot = omega (arith, ap length (held_live (StateOf c.args.self.now) (StateOf c.take-group-at.new.self) 1 c.take-group-at.result xs c.take-group-at.ensures.group c.take-group-at.ensures.after));
+      sound = c.take_group-at.ensures.sound;
+      slot = omega (arith, ap length (held_live (StateOf c.args.self.now) (StateOf c.take_group-at.new.self) 1 c.take_group-at.result xs c.take_group-at.ensures.group c.take_group-at.ensures.after));
     }
 
 pub returns : goal.returns
 returns g c =
-    let xs = take 1 (drop c.take-group-at.result c.args.self.now.cells.now) in
+    let xs = take 1 (drop c.take_group-at.result c.args.self.now.cells.now) in
     let had = open_may g.E.Entry.longest (StateOf c.args.self.now) (omega (arith, g.E.Entry.wide)) c.requires.may in
     let fit : length xs ≡ 1 =
-    ap (λ (j : ℕ). length (take 1 (drop j c.args.self.now.cells.now))) c.take-group-at.ensures.group
+    ap (λ (j : ℕ). length (take 1 (drop j c.args.self.now.cells.now))) c.take_group-at.ensures.group
     ∙ new_fits g.E.Entry.longest g.E.Entry.wide g.E.Entry.narrow _ _ _ _ _ c.requires.sound 1 1 (omega arith) (omega (arith, g.E.Entry.wide)) refl had in
     record {
       sound = c.replace.ensures.sound;
-      after = opened_all (StateOf c.args.self.now) (StateOf c.take-group-at.new.self) (StateOf c.replace.new.self) c.take-group-at.result xs c.args.e c.take-group-at.ensures.group fit c.take-group-at.ensures.after c.replace.ensures.after;
-      place = c.take-group-at.ensures.group;
+      after = opened_all (StateOf c.args.self.now) (StateOf c.take_group-at.new.self) (StateOf c.replace.new.self) c.take_group-at.result xs c.args.e c.take_group-at.ensures.group fit c.take_group-at.ensures.after c.replace.ensures.after;
+      place = c.take_group-at.ensures.group;
     }

@@ -9,14 +9,14 @@ bounds-self-y g c = omega (arith, c.requires.sized, size_low g.E.Entry.longest (
 pub bounds-self-at : goal.bounds-self-at
 bounds-self-at g c = live_index _ g.E.Entry.wide g.E.Entry.narrow _ _ _ _ _ c.requires.sound c.args.at c.requires.live
 
-pub overflow-add-self : goal.overflow-add-self
-overflow-add-self g c = omega (arith, live_index _ g.E.Entry.wide g.E.Entry.narrow _ _ _ _ _ c.requires.sound c.args.at c.requires.live, c.requires.sound.same, c.requires.sound.valid.within)
+pub overflow_add-self : goal.overflow_add-self
+overflow_add-self g c = omega (arith, live_index _ g.E.Entry.wide g.E.Entry.narrow _ _ _ _ _ c.requires.sound c.args.at c.requires.live, c.requires.sound.same, c.requires.sound.valid.within)
 
 pub bounds-self-y-2 : goal.bounds-self-y-2
 bounds-self-y-2 g c = omega (arith, c.requires.sized, size_low g.E.Entry.longest (length ((StateOf c.args.self.now).live c.args.at)) g.E.Entry.wide g.E.Entry.narrow)
 
-pub overflow-sub-self : goal.overflow-sub-self
-overflow-sub-self g c = some_run _ g.E.Entry.wide g.E.Entry.narrow _ _ _ _ _ c.requires.sound c.args.at c.requires.live
+pub overflow_sub-self : goal.overflow_sub-self
+overflow_sub-self g c = some_run _ g.E.Entry.wide g.E.Entry.narrow _ _ _ _ _ c.requires.sound c.args.at c.requires.live
 
 pub returns : goal.returns
 returns g c =

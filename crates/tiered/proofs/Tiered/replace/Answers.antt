@@ -2,11 +2,11 @@ use Rattle.std.proofs.Common.{◌+◌, ◌<◌, length, refl, arith, rules}
 use Rattle.tiered.proofs.Tiered.replace.Goals as goal
 use Rattle.tiered_model.proofs.Cells.{slot_cells, replaced}
 
-pub overflow-add-e : goal.overflow-add-e
-overflow-add-e g c = let b = slot_cells _ g.E.Entry.wide g.E.Entry.narrow _ _ _ _ _ c.requires.sound c.args.at c.args.slot c.requires.slot in omega arith
+pub overflow_add-e : goal.overflow_add-e
+overflow_add-e g c = let b = slot_cells _ g.E.Entry.wide g.E.Entry.narrow _ _ _ _ _ c.requires.sound c.args.at c.args.slot c.requires.slot in omega arith
 
-pub offset-bounds-self-at : goal.offset-bounds-self-at
-offset-bounds-self-at g c = let b = slot_cells _ g.E.Entry.wide g.E.Entry.narrow _ _ _ _ _ c.requires.sound c.args.at c.args.slot c.requires.slot in let h : c.args.at + c.args.slot < length c.args.self.now.cells.now = omega arith in search rules
+pub offset_bounds-self-at : goal.offset_bounds-self-at
+offset_bounds-self-at g c = let b = slot_cells _ g.E.Entry.wide g.E.Entry.narrow _ _ _ _ _ c.requires.sound c.args.at c.args.slot c.requires.slot in let h : c.args.at + c.args.slot < length c.args.self.now.cells.now = omega arith in search rules
 
 pub bounds-self-at : goal.bounds-self-at
 bounds-self-at g c = let b = slot_cells _ g.E.Entry.wide g.E.Entry.narrow _ _ _ _ _ c.requires.sound c.args.at c.args.slot c.requires.slot in omega arith

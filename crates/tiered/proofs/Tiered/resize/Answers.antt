@@ -23,7 +23,7 @@ returns-then-old-new g c =
       after = resized_here g.E.Entry.longest g.E.Entry.wide g.E.Entry.narrow (StateOf c.args.self.now) c.requires.sound.valid c.args.at c.args.n c.requires.old.1 c.requires.old.0 c.args.m c.requires.new.0 c.requires.new.1 (StateOf c.lengthen.new.self) ys e f.0 c.lengthen.ensures.after f.1;
     }
 
-pub move-run-requires : goal.move-run-requires
-move-run-requires g c =
+pub move_run-requires : goal.move_run-requires
+move_run-requires g c =
     let ne : size g.E.Entry.longest c.args.n ≡ size g.E.Entry.longest c.args.m → ⊥ = λ q. c.if-old-new.false (c.size-old.ensures ∙ q ∙ sym c.size-new.ensures) in
     record { sound = c.requires.sound; old = c.requires.old; new = c.requires.new; other = ne; has = change_had (StateOf c.args.self.now) _ _ c.requires.may ne }

@@ -2,8 +2,8 @@ use Rattle.std.proofs.Common.{◌<◌, length, get_or, refl, arith}
 use Rattle.tiered.proofs.Tiered.take_group.Goals as goal
 use Rattle.tiered_model.proofs.Changes.{popped, claimed_new, runs_low, front_low, size_low, claims}
 
-pub overflow-add-self-then-head-eq0 : goal.overflow-add-self-then-head-eq0
-overflow-add-self-then-head-eq0 g c = omega (arith, runs_low _ g.E.Entry.wide g.E.Entry.narrow _ _ _ _ _ c.requires.sound)
+pub overflow_add-self-then-head-eq0 : goal.overflow_add-self-then-head-eq0
+overflow_add-self-then-head-eq0 g c = omega (arith, runs_low _ g.E.Entry.wide g.E.Entry.narrow _ _ _ _ _ c.requires.sound)
 
 pub returns-then-head-eq0 : goal.returns-then-head-eq0
 returns-then-head-eq0 g c =
@@ -17,8 +17,8 @@ bounds-self-at-2 g c =
     let f = front_low _ g.E.Entry.wide g.E.Entry.narrow _ _ _ _ _ c.requires.sound c.args.y c.args.n c.requires.long.0 c.requires.long.1 c.requires.sized b in
     f.0
 
-pub overflow-cast-self-3 : goal.overflow-cast-self-3
-overflow-cast-self-3 g c =
+pub overflow_cast-self-3 : goal.overflow_cast-self-3
+overflow_cast-self-3 g c =
     let b : 0 < get_or c.args.self.now.heads c.args.y 0 = omega (arith, c.if-head-eq0.false) in
     let f = front_low _ g.E.Entry.wide g.E.Entry.narrow _ _ _ _ _ c.requires.sound c.args.y c.args.n c.requires.long.0 c.requires.long.1 c.requires.sized b in
     omega (arith, f.1, c.requires.sound.same, c.requires.sound.valid.within)
@@ -32,8 +32,8 @@ bounds-self-at-3 g c =
     let f = front_low _ g.E.Entry.wide g.E.Entry.narrow _ _ _ _ _ c.requires.sound c.args.y c.args.n c.requires.long.0 c.requires.long.1 c.requires.sized b in
     f.0
 
-pub overflow-add-self-2 : goal.overflow-add-self-2
-overflow-add-self-2 g c = omega (arith, runs_low _ g.E.Entry.wide g.E.Entry.narrow _ _ _ _ _ c.requires.sound)
+pub overflow_add-self-2 : goal.overflow_add-self-2
+overflow_add-self-2 g c = omega (arith, runs_low _ g.E.Entry.wide g.E.Entry.narrow _ _ _ _ _ c.requires.sound)
 
 pub returns : goal.returns
 returns g c =

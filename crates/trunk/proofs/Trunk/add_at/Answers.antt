@@ -9,8 +9,8 @@ use Rattle.trunk.specs.Steps.{place_of}
 use Rattle.std.proofs.Common.{true, [], ◌∷◌, ◌++◌, sym, subst}
 use Rattle.trunk.proofs.Trunk.add_at.Goals as goal
 
-pub grow-child-requires : goal.grow-child-requires
-grow-child-requires g c =
+pub grow_child-requires : goal.grow_child-requires
+grow_child-requires g c =
     let n = g.N.RunStore in
     let v = g.V.RunStore in
     let t = c.args.self.now in
@@ -30,7 +30,7 @@ returns g c p m =
     let t = c.args.self.now in
     let s = c.args.spot in
     let b = c.args.bit.number in
-    done n v (λ st. add_no n.model v.model st p b) (λ st _. Unit {0}) t c.grow-child.new.self tt
+    done n v (λ st. add_no n.model v.model st p b) (λ st _. Unit {0}) t c.grow_child.new.self tt
     (λ st. add_to n.model v.model st p b) (λ st. with_path (tree_in n.model v.model st) (p ++ b ∷ []) true) _
-    c.grow-child.ensures.nodes (subst g.V.RunStore.sound (sym c.grow-child.ensures.values) c.requires.sound.values) c.grow-child.ensures.after
+    c.grow_child.ensures.nodes (subst g.V.RunStore.sound (sym c.grow_child.ensures.values) c.requires.sound.values) c.grow_child.ensures.after
     (add_arrives n.model v.model _ _ _ _ n.lawful v.lawful (states n v t) (valid n v t c.requires.sound) p b (place_of s.place) (row_of s.record) m) tt

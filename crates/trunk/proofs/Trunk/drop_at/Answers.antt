@@ -9,11 +9,11 @@ use Rattle.table_model.specs.Tree.{with_path}
 use Rattle.trunk.proofs.Arriving.{valid, done}
 use Rattle.trunk.specs.Meaning.{states}
 use Rattle.trunk.specs.Steps.{place_of}
-use Rattle.std.proofs.Common.{false, [], ◌∷◌, ◌++◌, sym, refl, ap, ◌∙◌, subst}
+use Rattle.std.proofs.Common.{false, [], ◌∷◌, ◌++◌, sym, ap, ◌∙◌, subst}
 use Rattle.trunk.proofs.Trunk.drop_at.Goals as goal
 
-pub shrink-run-index-requires : goal.shrink-run-index-requires
-shrink-run-index-requires g c =
+pub shrink_run-index-requires : goal.shrink_run-index-requires
+shrink_run-index-requires g c =
     let n = g.N.RunStore in
     let v = g.V.RunStore in
     let t = c.args.self.now in
@@ -21,8 +21,8 @@ shrink-run-index-requires g c =
     let b = c.args.bit.number in
     record { sound = c.requires.sound.nodes; granted = drop_granted n.model v.model _ _ _ _ n.lawful v.lawful (states n v t) (valid n v t c.requires.sound) c.requires.may.0 b (place_of s.place) (row_of s.record) c.requires.may.1 }
 
-pub write-children-requires : goal.write-children-requires
-write-children-requires g c =
+pub write_children-requires : goal.write_children-requires
+write_children-requires g c =
     let n = g.N.RunStore in
     let v = g.V.RunStore in
     let t = c.args.self.now in
@@ -30,10 +30,10 @@ write-children-requires g c =
     let b = c.args.bit.number in
     let m = c.requires.may.1 in
     record {
-      sound = c.shrink-run-index.ensures.kept;
-      granted = ap (λ (y : g.N.RunStore.State). no_write g.N.RunStore.model y (place_of c.args.spot.place)) c.shrink-run-index.ensures.after
+      sound = c.shrink_run-index.ensures.kept;
+      granted = ap (λ (y : g.N.RunStore.State). no_write g.N.RunStore.model y (place_of c.args.spot.place)) c.shrink_run-index.ensures.after
           ∙ parent_stands n.model v.model _ _ _ _ n.lawful v.lawful (states n v t) (valid n v t c.requires.sound) c.requires.may.0 b (place_of s.place) (row_of s.record) m;
-      passes = subst Passes (sym (drop_root n.model v.model (states n v t) (place_of s.place) (row_of s.record) b c.without-bit.result c.shrink-run-index.result.1 c.without-bit.ensures.value c.shrink-run-index.ensures.index))
+      passes = subst Passes (sym (drop_root n.model v.model (states n v t) (place_of s.place) (row_of s.record) b c.without_bit.result c.shrink_run-index.result.1 c.without_bit.ensures.value c.shrink_run-index.ensures.index))
           (root_there n.model v.model _ _ _ _ _ _ (drop_arrives n.model v.model _ _ _ _ n.lawful v.lawful (states n v t) (valid n v t c.requires.sound) c.requires.may.0 b (place_of s.place) (row_of s.record) m));
     }
 
@@ -44,10 +44,10 @@ returns g c p m =
     let t = c.args.self.now in
     let s = c.args.spot in
     let b = c.args.bit.number in
-    let u = c.write-children.new.self in
+    let u = c.write_children.new.self in
     done n v (λ st. drop_no n.model v.model st p b) (λ st _. Unit {0}) t u tt
     (λ st. drop_to n.model v.model st p b) (λ st. with_path (tree_in n.model v.model st) (p ++ b ∷ []) false) _
-    c.write-children.ensures.kept (subst g.V.RunStore.sound (sym c.write-children.ensures.values) c.requires.sound.values)
-    (drop_is n.model v.model (states n v t) (place_of s.place) (row_of s.record) b (n.state c.shrink-run-index.new.store) (n.state u.nodes) (v.state u.values) (row_of u.root) c.without-bit.result c.shrink-run-index.result.1 c.without-bit.ensures.value
-    c.shrink-run-index.ensures.after c.shrink-run-index.ensures.index (ap g.V.RunStore.state c.write-children.ensures.values) c.write-children.ensures.nodes c.write-children.ensures.root)
+    c.write_children.ensures.kept (subst g.V.RunStore.sound (sym c.write_children.ensures.values) c.requires.sound.values)
+    (drop_is n.model v.model (states n v t) (place_of s.place) (row_of s.record) b (n.state c.shrink_run-index.new.store) (n.state u.nodes) (v.state u.values) (row_of u.root) c.without_bit.result c.shrink_run-index.result.1 c.without_bit.ensures.value
+    c.shrink_run-index.ensures.after c.shrink_run-index.ensures.index (ap g.V.RunStore.state c.write_children.ensures.values) c.write_children.ensures.nodes c.write_children.ensures.root)
     (drop_arrives n.model v.model _ _ _ _ n.lawful v.lawful (states n v t) (valid n v t c.requires.sound) p b (place_of s.place) (row_of s.record) m) tt

@@ -12,8 +12,8 @@ use Rattle.trunk.specs.Steps.{place_of}
 use Rattle.trunk.proofs.Seen.{untouched_same, untouched_on, both_times}
 use Rattle.trunk.proofs.Trunk.follow.Goals as goal
 
-pub overflow-cast-result : goal.overflow-cast-result
-overflow-cast-result g c = omega (arith, reads_short c.args.path.now c.requires.reads)
+pub overflow_cast-result : goal.overflow_cast-result
+overflow_cast-result g c = omega (arith, reads_short c.args.path.now c.requires.reads)
 
 pub loop-i-init : goal.loop-i-init
 loop-i-init g c = (c.requires.sound, untouched_same g.N.RunStore g.V.RunStore c.args.self.now, descend_nil _ _ _)

@@ -11,8 +11,8 @@ use Rattle.trunk.specs.Meaning.{states}
 use Rattle.trunk.specs.Steps.{place_of}
 use Rattle.trunk.proofs.Trunk.may_drop.Goals as goal
 
-pub returns-in-default : goal.returns-in-default
-returns-in-default g c =
+pub returns-in_default : goal.returns-in_default
+returns-in_default g c =
     let n = g.N.RunStore in
     let v = g.V.RunStore in
     let t = c.args.self.now in
@@ -20,13 +20,13 @@ returns-in-default g c =
     let b = c.args.bit.number in
     let t1 = c.reach.new.self in
     let t2 = c.child.new.self in
-    let s = c.in-ok-spot.spot in
-    let j = c.in-ok-spot.ensures in
+    let s = c.in_ok-spot.spot in
+    let j = c.in_ok-spot.ensures in
     record {
-      sound = c.in-default.ensures.sound;
-      untouched = untouched_on n v t t1 t2 j.untouched c.in-default.ensures.untouched;
+      sound = c.in_default.ensures.sound;
+      untouched = untouched_on n v t t1 t2 j.untouched c.in_default.ensures.untouched;
       answer = ap (λ (st : States g.N.RunStore.State g.V.RunStore.State). drop_no g.N.RunStore.model g.V.RunStore.model st c.args.path.now c.args.bit.number) (sym j.untouched.states)
-          ∙ drop_missing n.model v.model (states n v t1) j.sound.agrees p b (place_of s.place) (row_of s.record) j.answer.1 c.in-default.ensures.answer;
+          ∙ drop_missing n.model v.model (states n v t1) j.sound.agrees p b (place_of s.place) (row_of s.record) j.answer.1 c.in_default.ensures.answer;
     }
 
 pub returns-then-child-ne0 : goal.returns-then-child-ne0
@@ -38,8 +38,8 @@ returns-then-child-ne0 g c =
     let b = c.args.bit.number in
     let t1 = c.reach.new.self in
     let t2 = c.child.new.self in
-    let s = c.in-ok-spot.spot in
-    let j = c.in-ok-spot.ensures in
+    let s = c.in_ok-spot.spot in
+    let j = c.in_ok-spot.ensures in
     record {
       sound = c.in-Some.ensures.sound;
       untouched = untouched_on n v t t1 t2 j.untouched c.in-Some.ensures.untouched;
@@ -56,11 +56,11 @@ returns-in-Ok g c =
     let b = c.args.bit.number in
     let t1 = c.reach.new.self in
     let t2 = c.child.new.self in
-    let s = c.in-ok-spot.spot in
-    let j = c.in-ok-spot.ensures in
+    let s = c.in_ok-spot.spot in
+    let j = c.in_ok-spot.ensures in
     let k = c.in-Some.ensures in
     let un = untouched_on n v t t1 t2 j.untouched k.untouched in
-    let u = asked_nodes n v t t2 c.ask-less.new.store k.sound un c.ask-less.ensures.asked in
+    let u = asked_nodes n v t t2 c.ask_less.new.store k.sound un c.ask_less.ensures.asked in
     let at = both_later n v t t1 t2 j.untouched un (λ st. Reached n.model v.model st p b 32 (place_of s.place) (row_of s.record)) j.answer.1 in
     let stood = both_later n v t t1 t2 j.untouched un (λ st. child (n.model.live st.nodes) (row_of s.record) b ≡ Some (row_of c.in-Some.child.record)) k.answer.0 in
     let m = drop_may n.model v.model (states n v t2) k.sound.agrees p b (place_of s.place) (row_of s.record) at.1 (row_of c.in-Some.child.record) stood.1 (omega arith) (omega arith) c.in-Ok.ensures.answer in
@@ -75,11 +75,11 @@ returns-in-Err g c =
     let b = c.args.bit.number in
     let t1 = c.reach.new.self in
     let t2 = c.child.new.self in
-    let s = c.in-ok-spot.spot in
-    let j = c.in-ok-spot.ensures in
+    let s = c.in_ok-spot.spot in
+    let j = c.in_ok-spot.ensures in
     let k = c.in-Some.ensures in
     let un = untouched_on n v t t1 t2 j.untouched k.untouched in
-    let u = asked_nodes n v t t2 c.ask-less.new.store k.sound un c.ask-less.ensures.asked in
+    let u = asked_nodes n v t t2 c.ask_less.new.store k.sound un c.ask_less.ensures.asked in
     let at = both_later n v t t1 t2 j.untouched un (λ st. Reached n.model v.model st p b 32 (place_of s.place) (row_of s.record)) j.answer.1 in
     let stood = both_later n v t t1 t2 j.untouched un (λ st. child (n.model.live st.nodes) (row_of s.record) b ≡ Some (row_of c.in-Some.child.record)) k.answer.0 in
     record {

@@ -10,19 +10,19 @@ use Rattle.trunk.specs.Steps.{place_of}
 use Rattle.std.proofs.Common.{sym, ap, ◌∙◌}
 use Rattle.trunk.proofs.Trunk.may_put.Goals as goal
 
-pub returns-then-is-set : goal.returns-then-is-set
-returns-then-is-set g c =
+pub returns-then-is_set : goal.returns-then-is_set
+returns-then-is_set g c =
     let n = g.N.RunStore in
     let v = g.V.RunStore in
     let t = c.args.self.now in
     let p = c.args.path.now in
     let b = c.args.bit.number in
-    let s = c.in-ok-spot.spot in
-    let j = c.in-ok-spot.ensures in
+    let s = c.in_ok-spot.spot in
+    let j = c.in_ok-spot.ensures in
     record {
       sound = j.sound;
       untouched = j.untouched;
-      answer = put_taken n.model v.model (states n v t) c.requires.agrees p b (place_of s.place) (row_of s.record) j.answer.0 (sym c.is-set.ensures ∙ c.if-is-set.true);
+      answer = put_taken n.model v.model (states n v t) c.requires.agrees p b (place_of s.place) (row_of s.record) j.answer.0 (sym c.is_set.ensures ∙ c.if-is_set.true);
     }
 
 pub returns-in-Ok : goal.returns-in-Ok
@@ -33,10 +33,10 @@ returns-in-Ok g c =
     let p = c.args.path.now in
     let b = c.args.bit.number in
     let t1 = c.reach.new.self in
-    let s = c.in-ok-spot.spot in
-    let j = c.in-ok-spot.ensures in
-    let u = asked_values n v t t1 c.ask-more.new.store j.sound j.untouched c.ask-more.ensures.asked in
-    let m = put_may n.model v.model (states n v t1) j.sound.agrees p b (place_of s.place) (row_of s.record) j.answer.1 (sym c.is-set.ensures ∙ c.if-is-set.false) c.in-Ok.ensures.answer in
+    let s = c.in_ok-spot.spot in
+    let j = c.in_ok-spot.ensures in
+    let u = asked_values n v t t1 c.ask_more.new.store j.sound j.untouched c.ask_more.ensures.asked in
+    let m = put_may n.model v.model (states n v t1) j.sound.agrees p b (place_of s.place) (row_of s.record) j.answer.1 (sym c.is_set.ensures ∙ c.if-is_set.false) c.in-Ok.ensures.answer in
     record { sound = u.0; untouched = u.1; answer = both_later n v t t1 _ j.untouched u.1 (λ st. MayPut n.model v.model st p b (place_of s.place) (row_of s.record)) m }
 
 pub returns-in-Err : goal.returns-in-Err
@@ -47,13 +47,13 @@ returns-in-Err g c =
     let p = c.args.path.now in
     let b = c.args.bit.number in
     let t1 = c.reach.new.self in
-    let s = c.in-ok-spot.spot in
-    let j = c.in-ok-spot.ensures in
-    let u = asked_values n v t t1 c.ask-more.new.store j.sound j.untouched c.ask-more.ensures.asked in
+    let s = c.in_ok-spot.spot in
+    let j = c.in_ok-spot.ensures in
+    let u = asked_values n v t t1 c.ask_more.new.store j.sound j.untouched c.ask_more.ensures.asked in
     record {
       sound = u.0;
       untouched = u.1;
       answer = ap (λ (st : States g.N.RunStore.State g.V.RunStore.State). put_no g.N.RunStore.model g.V.RunStore.model st c.args.path.now c.args.bit.number) (sym j.untouched.states)
-          ∙ put_clear n.model v.model (states n v t1) j.sound.agrees p b (place_of s.place) (row_of s.record) j.answer.1 (sym c.is-set.ensures ∙ c.if-is-set.false)
+          ∙ put_clear n.model v.model (states n v t1) j.sound.agrees p b (place_of s.place) (row_of s.record) j.answer.1 (sym c.is_set.ensures ∙ c.if-is_set.false)
           ∙ ap (inside 10) c.in-Err.ensures.answer;
     }

@@ -17,10 +17,10 @@ returns-in-Ok g c =
     let t = c.args.self.now in
     let p = c.args.path.now in
     let b = c.args.bit.number in
-    let t1 = c.may-get.new.self in
-    let s = c.in-ok-spot.spot in
-    let j = c.in-ok-spot.ensures in
-    let u = asked_values n v t t1 c.ask-less.new.store j.sound j.untouched c.ask-less.ensures.asked in
+    let t1 = c.may_get.new.self in
+    let s = c.in_ok-spot.spot in
+    let j = c.in_ok-spot.ensures in
+    let u = asked_values n v t t1 c.ask_less.new.store j.sound j.untouched c.ask_less.ensures.asked in
     let m = take_may n.model v.model (states n v t1) j.sound.agrees p b (place_of s.place) (row_of s.record) j.answer.1.at j.answer.1 c.in-Ok.ensures.answer in
     record { sound = u.0; untouched = u.1; answer = both_later n v t t1 _ j.untouched u.1 (λ st. MayTake n.model v.model st p b (place_of s.place) (row_of s.record)) m }
 
@@ -31,10 +31,10 @@ returns-in-Err g c =
     let t = c.args.self.now in
     let p = c.args.path.now in
     let b = c.args.bit.number in
-    let t1 = c.may-get.new.self in
-    let s = c.in-ok-spot.spot in
-    let j = c.in-ok-spot.ensures in
-    let u = asked_values n v t t1 c.ask-less.new.store j.sound j.untouched c.ask-less.ensures.asked in
+    let t1 = c.may_get.new.self in
+    let s = c.in_ok-spot.spot in
+    let j = c.in_ok-spot.ensures in
+    let u = asked_values n v t t1 c.ask_less.new.store j.sound j.untouched c.ask_less.ensures.asked in
     record {
       sound = u.0;
       untouched = u.1;

@@ -7,7 +7,7 @@ use Rattle.table_model.proofs.Nodes.{way_find, node_has}
 use Rattle.table_model.proofs.Whole.{show_law}
 use Rattle.trunk.proofs.Seen.{both_times}
 use Rattle.trunk.proofs.Trunk.node.Goals as goal
-use Rattle.trunk.specs.Meaning.{states, tree}
+use Rattle.trunk.specs.Meaning.{tree}
 use Rattle.trunk.specs.Promises.{Displayed}
 use Rattle.trunk.specs.Steps.{place_of}
 
@@ -18,7 +18,7 @@ returns g c =
     let t = c.args.self.now in
     let t1 = c.follow.new.self in
     let p = c.args.path.now in
-    let good = c.in-ok-read-path.ensures in
+    let good = c.in_ok-read_path.ensures in
     let a = c.follow.ensures.sound.agrees in
     let nodes = n.model.live (n.state t1.nodes) in
     let vals = v.model.live (v.state t1.values) in

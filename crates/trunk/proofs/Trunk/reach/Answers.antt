@@ -17,7 +17,7 @@ returns g c =
     let p = c.args.path.now in
     let b = c.args.bit.number in
     let w = c.args.width in
-    let good = c.in-ok-read-path.ensures in
+    let good = c.in_ok-read_path.ensures in
     record {
       sound = c.follow.ensures.sound;
       untouched = c.follow.ensures.untouched;

@@ -4,14 +4,14 @@ use Rattle.flat.proofs.flat.Flat.open_run.Goals as goal
 
 pub replace-requires : goal.replace-requires
 replace-requires g c = record {
-  sound = c.take-group-at.ensures.sound;
-  slot = open_slot _ g.E.Entry.wide g.E.Entry.narrow _ _ _ _ _ c.requires.sound c.requires.may c.take-group-at.result (StateOf c.take-group-at.new.self) c.take-group-at.ensures.group c.take-group-at.ensures.after;
+  sound = c.take_group-at.ensures.sound;
+  slot = open_slot _ g.E.Entry.wide g.E.Entry.narrow _ _ _ _ _ c.requires.sound c.requires.may c.take_group-at.result (StateOf c.take_group-at.new.self) c.take_group-at.ensures.group c.take_group-at.ensures.after;
 }
 
 pub returns : goal.returns
 returns g c = record {
   sound = c.replace.ensures.sound;
-  after = open_done _ g.E.Entry.wide g.E.Entry.narrow _ _ _ _ _ c.requires.sound c.requires.may c.take-group-at.result (StateOf c.take-group-at.new.self) c.take-group-at.ensures.group c.take-group-at.ensures.after
+  after = open_done _ g.E.Entry.wide g.E.Entry.narrow _ _ _ _ _ c.requires.sound c.requires.may c.take_group-at.result (StateOf c.take_group-at.new.self) c.take_group-at.ensures.group c.take_group-at.ensures.after
       (StateOf c.replace.new.self) c.args.e c.replace.ensures.after;
-  place = c.take-group-at.ensures.group;
+  place = c.take_group-at.ensures.group;
 }

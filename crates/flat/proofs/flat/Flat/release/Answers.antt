@@ -1,8 +1,8 @@
 use Rattle.flat_model.proofs.Words.{some_run, run_ends}
 use Rattle.flat.proofs.flat.Flat.release.Goals as goal
 
-pub overflow-sub-self : goal.overflow-sub-self
-overflow-sub-self g c = some_run _ g.E.Entry.wide g.E.Entry.narrow _ _ _ _ _ c.requires.sound c.args.at c.requires.live
+pub overflow_sub-self : goal.overflow_sub-self
+overflow_sub-self g c = some_run _ g.E.Entry.wide g.E.Entry.narrow _ _ _ _ _ c.requires.sound c.args.at c.requires.live
 
 pub returns : goal.returns
 returns g c =

@@ -5,16 +5,16 @@ use Rattle.flat.proofs.flat.Flat.use_again.Goals as goal
 pub bounds-self-at : goal.bounds-self-at
 bounds-self-at g c = (front_low _ g.E.Entry.wide g.E.Entry.narrow _ _ _ _ _ c.requires.sound c.requires.some).0
 
-pub overflow-cast-self-2 : goal.overflow-cast-self-2
-overflow-cast-self-2 g c =
+pub overflow_cast-self-2 : goal.overflow_cast-self-2
+overflow_cast-self-2 g c =
     let f = front_low _ g.E.Entry.wide g.E.Entry.narrow _ _ _ _ _ c.requires.sound c.requires.some in
     omega (arith, f.1, c.requires.sound.same, c.requires.sound.valid.within)
 
 pub bounds-self-at-2 : goal.bounds-self-at-2
 bounds-self-at-2 g c = (front_low _ g.E.Entry.wide g.E.Entry.narrow _ _ _ _ _ c.requires.sound c.requires.some).0
 
-pub overflow-add-self : goal.overflow-add-self
-overflow-add-self g c = omega (arith, runs_low _ g.E.Entry.wide g.E.Entry.narrow _ _ _ _ _ c.requires.sound)
+pub overflow_add-self : goal.overflow_add-self
+overflow_add-self g c = omega (arith, runs_low _ g.E.Entry.wide g.E.Entry.narrow _ _ _ _ _ c.requires.sound)
 
 pub returns : goal.returns
 returns g c =
