@@ -2,7 +2,6 @@
 // 23 (no group) and 24 (limit reached) are seen with the layers that they have crossed.
 #![tactic(auto)]
 
-
 use bitmap::Slot;
 use flat::flat::Flat;
 use quota::quota::{Occupied, Quota};
