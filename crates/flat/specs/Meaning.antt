@@ -4,8 +4,8 @@ use Rattle.flat_model.specs.Flat.{State}
 use Rattle.flat_model.specs.Ledger.{state_of, Sound}
 use Rattle.flat.specs.declared.flat.Flat.{Flat}
 
-abbrev pub StateOf : {E : Type 0} → Flat E → State E
-StateOf f = state_of f.cells.now f.ledger.now f.claimed f.head
+abbrev pub store_state : {E : Type 0} → Flat E → State E
+store_state f = state_of f.cells.now f.ledger.now f.claimed f.head
 
 abbrev pub SoundOf : {E : Type 0} → ℕ → Flat E → Type 0
 SoundOf longest f = Sound longest f.cells.now f.ledger.now f.claimed f.head f.runs
@@ -14,5 +14,5 @@ SoundOf longest f = Sound longest f.cells.now f.ledger.now f.claimed f.head f.ru
 abbrev pub Memory : Type 0 → Type 0
 Memory E = List E × List ℕ × ℕ × ℕ × ℕ
 
-abbrev pub MemoryOf : {E : Type 0} → Flat E → Memory E
-MemoryOf f = (f.cells.now, f.ledger.now, f.claimed, f.head, f.runs)
+abbrev pub memory_of : {E : Type 0} → Flat E → Memory E
+memory_of f = (f.cells.now, f.ledger.now, f.claimed, f.head, f.runs)

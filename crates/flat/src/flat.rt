@@ -6,7 +6,7 @@ ghost use Rattle.runs.specs.Runs.{grows, no_insert, no_remove};
 ghost use Rattle.runs.specs.Calls.{taken};
 ghost use Rattle.flat_model.specs.Flat.{State, Valid, fresh, flat, has, group, held, kept, released};
 ghost use Rattle.flat_model.proofs.Lawful.{lawful};
-ghost use Rattle.flat.specs.Meaning.{StateOf, SoundOf, Memory, MemoryOf};
+ghost use Rattle.flat.specs.Meaning.{store_state, SoundOf, Memory, memory_of};
 
 mod asking;
 
@@ -38,7 +38,7 @@ impl<'a, E: Entry> Flat<'a, E> {
     // Where `lent` refuses them, the store has no cells.
     pub fn new(cells: &'a mut [E], ledger: &'a mut [u64]) -> Flat<'a, E>
         ensures sound { SoundOf E.Entry.longest result }
-        ensures after { StateOf result ≡ fresh (taken (length cells.old) (length ledger.old)) }
+        ensures after { store_state result ≡ fresh (taken (length cells.old) (length ledger.old)) }
     {
         match lent(cells, ledger) {
             Ok(_) => Flat::over(cells, ledger),
@@ -50,7 +50,7 @@ impl<'a, E: Entry> Flat<'a, E> {
         requires same { length ledger.old ≡ length cells.old }
         requires low { length cells.old ≤ indexes }
         ensures sound { SoundOf E.Entry.longest result }
-        ensures after { StateOf result ≡ fresh (length cells.old) }
+        ensures after { store_state result ≡ fresh (length cells.old) }
     {
         clear(ledger);
         Flat {
@@ -66,10 +66,10 @@ impl<'a, E: Entry> Flat<'a, E> {
     fn claim_next(&mut self) -> u32
         requires sound { SoundOf E.Entry.longest self.old }
         requires none { self.old.head ≡ 0 }
-        requires has { has E.Entry.longest (StateOf self.old) ≡ true }
+        requires has { has E.Entry.longest (store_state self.old) ≡ true }
         ensures sound { SoundOf E.Entry.longest self.new }
-        ensures group { result ≡ group (StateOf self.old) }
-        ensures after { StateOf self.new ≡ held E.Entry.longest (StateOf self.old) (take 1 (drop result self.old.cells.now)) }
+        ensures group { result ≡ group (store_state self.old) }
+        ensures after { store_state self.new ≡ held E.Entry.longest (store_state self.old) (take 1 (drop result self.old.cells.now)) }
     {
         let at = self.claimed;
         self.ledger[at as usize] = 1;
@@ -83,8 +83,8 @@ impl<'a, E: Entry> Flat<'a, E> {
         requires sound { SoundOf E.Entry.longest self.old }
         requires some { 0 < self.old.head }
         ensures sound { SoundOf E.Entry.longest self.new }
-        ensures group { result ≡ group (StateOf self.old) }
-        ensures after { StateOf self.new ≡ held E.Entry.longest (StateOf self.old) (take 1 (drop result self.old.cells.now)) }
+        ensures group { result ≡ group (store_state self.old) }
+        ensures after { store_state self.new ≡ held E.Entry.longest (store_state self.old) (take 1 (drop result self.old.cells.now)) }
     {
         let at = self.head - 1;
         self.head = (self.ledger[at as usize] / 64) as u32;
@@ -96,9 +96,9 @@ impl<'a, E: Entry> Flat<'a, E> {
     // The run at an index ends, and its group is the one freed last.
     fn release(&mut self, at: u32)
         requires sound { SoundOf E.Entry.longest self.old }
-        requires live { 1 ≤ length ((StateOf self.old).live at) }
+        requires live { 1 ≤ length ((store_state self.old).live at) }
         ensures sound { SoundOf E.Entry.longest self.new }
-        ensures after { StateOf self.new ≡ released (StateOf self.old) at }
+        ensures after { store_state self.new ≡ released (store_state self.old) at }
     {
         self.ledger[at as usize] = 64 * self.head as u64;
         self.head = at + 1;
@@ -108,10 +108,10 @@ impl<'a, E: Entry> Flat<'a, E> {
     // A group becomes a run of one entry, whatever its cell holds.
     fn take_group(&mut self) -> u32
         requires sound { SoundOf E.Entry.longest self.old }
-        requires has { has E.Entry.longest (StateOf self.old) ≡ true }
+        requires has { has E.Entry.longest (store_state self.old) ≡ true }
         ensures sound { SoundOf E.Entry.longest self.new }
-        ensures group { result ≡ group (StateOf self.old) }
-        ensures after { StateOf self.new ≡ held E.Entry.longest (StateOf self.old) (take 1 (drop result self.old.cells.now)) }
+        ensures group { result ≡ group (store_state self.old) }
+        ensures after { store_state self.new ≡ held E.Entry.longest (store_state self.old) (take 1 (drop result self.old.cells.now)) }
     {
         if self.head == 0 {
             self.claim_next()
@@ -123,8 +123,8 @@ impl<'a, E: Entry> Flat<'a, E> {
     // The entry at a slot of a run.
     fn read(&self, at: u32, slot: u32) -> E
         requires sound { SoundOf E.Entry.longest self.now }
-        requires slot { slot < length ((StateOf self.now).live at) }
-        ensures { nth ((StateOf self.now).live at) slot ≡ Some result }
+        requires slot { slot < length ((store_state self.now).live at) }
+        ensures { nth ((store_state self.now).live at) slot ≡ Some result }
     {
         match entry_in(self.cells, (at + slot) as usize) {
             Some(e) => e,
@@ -135,9 +135,9 @@ impl<'a, E: Entry> Flat<'a, E> {
     // Writes an entry at a slot of a run.
     fn replace(&mut self, at: u32, slot: u32, e: E)
         requires sound { SoundOf E.Entry.longest self.old }
-        requires slot { slot < length ((StateOf self.old).live at) }
+        requires slot { slot < length ((store_state self.old).live at) }
         ensures sound { SoundOf E.Entry.longest self.new }
-        ensures after { StateOf self.new ≡ kept (StateOf self.old) at (slice_set ((StateOf self.old).live at) slot e) }
+        ensures after { store_state self.new ≡ kept (store_state self.old) at (slice_set ((store_state self.old).live at) slot e) }
     {
         self.cells[(at + slot) as usize] = e;
     }
@@ -145,10 +145,10 @@ impl<'a, E: Entry> Flat<'a, E> {
     // A new run of one entry.
     fn open_run(&mut self, e: E) -> u32
         requires sound { SoundOf E.Entry.longest self.old }
-        requires may { grows (flat E.Entry.longest) (StateOf self.old) 0 ≡ None }
+        requires may { grows (flat E.Entry.longest) (store_state self.old) 0 ≡ None }
         ensures sound { SoundOf E.Entry.longest self.new }
-        ensures after { StateOf self.new ≡ (flat E.Entry.longest).opened (StateOf self.old) e }
-        ensures place { result ≡ (flat E.Entry.longest).opened_at (StateOf self.old) e }
+        ensures after { store_state self.new ≡ (flat E.Entry.longest).opened (store_state self.old) e }
+        ensures place { result ≡ (flat E.Entry.longest).opened_at (store_state self.old) e }
     {
         let at = self.take_group();
         self.replace(at, 0, e);
@@ -158,10 +158,10 @@ impl<'a, E: Entry> Flat<'a, E> {
     // An entry before a slot of a run of n: the group has room, so the shift is not refused.
     fn put_in(&mut self, at: u32, n: u32, slot: u32, e: E)
         requires sound { SoundOf E.Entry.longest self.old }
-        requires may { no_insert (flat E.Entry.longest) (StateOf self.old) at slot ≡ None }
-        requires long { n ≡ length ((StateOf self.old).live at) }
+        requires may { no_insert (flat E.Entry.longest) (store_state self.old) at slot ≡ None }
+        requires long { n ≡ length ((store_state self.old).live at) }
         ensures sound { SoundOf E.Entry.longest self.new }
-        ensures after { StateOf self.new ≡ (flat E.Entry.longest).inserted (StateOf self.old) at slot e }
+        ensures after { store_state self.new ≡ (flat E.Entry.longest).inserted (store_state self.old) at slot e }
     {
         let _ = shift_right(self.cells, (at + slot) as usize, (at + n) as usize);
         self.cells[(at + slot) as usize] = e;
@@ -171,11 +171,11 @@ impl<'a, E: Entry> Flat<'a, E> {
     // The entry at a slot out of a run of n, which keeps some: the slot is in the run, so the shift is not refused.
     fn close_gap(&mut self, at: u32, n: u32, slot: u32)
         requires sound { SoundOf E.Entry.longest self.old }
-        requires may { no_remove (flat E.Entry.longest) (StateOf self.old) at slot ≡ None }
-        requires long { n ≡ length ((StateOf self.old).live at) }
+        requires may { no_remove (flat E.Entry.longest) (store_state self.old) at slot ≡ None }
+        requires long { n ≡ length ((store_state self.old).live at) }
         requires more { 1 < n }
         ensures sound { SoundOf E.Entry.longest self.new }
-        ensures after { StateOf self.new ≡ kept (StateOf self.old) at (without ((StateOf self.old).live at) slot) }
+        ensures after { store_state self.new ≡ kept (store_state self.old) at (without ((store_state self.old).live at) slot) }
     {
         let _ = shift_left(self.cells, (at + slot) as usize, (at + n) as usize);
         self.ledger[at as usize] = n as u64 - 1;
@@ -184,11 +184,11 @@ impl<'a, E: Entry> Flat<'a, E> {
     // The entry at a slot out of a run of n; the last one ends it.
     fn take_out(&mut self, at: u32, n: u32, slot: u32) -> u32
         requires sound { SoundOf E.Entry.longest self.old }
-        requires may { no_remove (flat E.Entry.longest) (StateOf self.old) at slot ≡ None }
-        requires long { n ≡ length ((StateOf self.old).live at) }
+        requires may { no_remove (flat E.Entry.longest) (store_state self.old) at slot ≡ None }
+        requires long { n ≡ length ((store_state self.old).live at) }
         ensures sound { SoundOf E.Entry.longest self.new }
-        ensures after { StateOf self.new ≡ (flat E.Entry.longest).removed (StateOf self.old) at slot }
-        ensures place { result ≡ (flat E.Entry.longest).removed_at (StateOf self.old) at slot }
+        ensures after { store_state self.new ≡ (flat E.Entry.longest).removed (store_state self.old) at slot }
+        ensures place { result ≡ (flat E.Entry.longest).removed_at (store_state self.old) at slot }
     {
         if n > 1 {
             self.close_gap(at, n, slot);
@@ -216,7 +216,7 @@ impl<'a, E: Entry> RunStore for Flat<'a, E> {
 
     ghost model = { flat E.Entry.longest };
 
-    ghost state = { λ f. StateOf f };
+    ghost state = { λ f. store_state f };
 
     ghost Valid = { Valid E.Entry.longest };
 
@@ -226,7 +226,7 @@ impl<'a, E: Entry> RunStore for Flat<'a, E> {
 
     ghost Memory = { Memory E };
 
-    ghost memory = { λ f. MemoryOf f };
+    ghost memory = { λ f. memory_of f };
 
     ghost sound = { λ f. SoundOf E.Entry.longest f };
 

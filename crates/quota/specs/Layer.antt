@@ -9,11 +9,15 @@ use Rattle.quota.specs.declared.quota.Occupied.{Occupied}
 use Rattle.quota.specs.declared.quota.Quota.{Quota}
 
 module _ {S E Ix : Type 0} (b : Ghosts S E Ix) where
-  abbrev pub StateOf : Quota S → State b.State
-  StateOf q = record { limit = q.limit; below = b.state q.below }
+  abbrev pub store_state : Quota S → State b.State
+  store_state q = record { limit = q.limit; below = b.state q.below }
 
-  abbrev pub MemoryOf : Quota S → b.Memory × ℕ × ℕ
-  MemoryOf q = (b.memory q.below, q.limit, q.used)
+  -- what a layer over this layer means
+  abbrev pub upper_state : Quota (Quota S) → State (State b.State)
+  upper_state q = record { limit = q.limit; below = store_state q.below }
+
+  abbrev pub memory_of : Quota S → b.Memory × ℕ × ℕ
+  memory_of q = (b.memory q.below, q.limit, q.used)
 
   -- the layer has counted the entries of the store below, which is sound
   abbrev pub SoundOf : Quota S → Type 0
@@ -21,10 +25,10 @@ module _ {S E Ix : Type 0} (b : Ghosts S E Ix) where
 
   -- what a question and a call leave of the layer
   abbrev pub Asks : Quota S → Quota S → Type 0
-  Asks = Asked SoundOf StateOf MemoryOf
+  Asks = Asked SoundOf store_state memory_of
 
   abbrev pub Leads : Quota S → Grant → State b.State → Quota S → Type 0
-  Leads = Called SoundOf StateOf MemoryOf
+  Leads = Called SoundOf store_state memory_of
 
   -- the entries of all runs number the limit
   abbrev pub reached : Quota S → Bool
@@ -38,8 +42,8 @@ module _ {S E Ix : Type 0} (b : Ghosts S E Ix) where
   -- the layer that a start makes of a store with no run
   pub record Started (below : S) (limit : ℕ) (q : Quota S) : Type 0 where
     pub kept : SoundOf q
-    pub after : StateOf q ≡ record { limit = limit; below = b.state below }
-    pub holds : MemoryOf q ≡ (b.memory below, limit, 0)
+    pub after : store_state q ≡ record { limit = limit; below = b.state below }
+    pub holds : memory_of q ≡ (b.memory below, limit, 0)
 
 -- the layer with another count
 abbrev pub with_used : {S : Type 0} → Quota S → ℕ → Quota S

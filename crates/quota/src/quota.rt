@@ -6,7 +6,7 @@ ghost use Rattle.runs.specs.Runs.{count, total, grows, shrinks, no_entry, no_ins
 ghost use Rattle.runs.specs.Calls.{Says, Tells, Asked};
 ghost use Rattle.quota_model.specs.Quotas.{State, up, capped};
 ghost use Rattle.quota_model.proofs.Lawful.{lawful};
-ghost use Rattle.quota.specs.Layer.{StateOf, MemoryOf, SoundOf, Asks, Leads, reached, stops, with_used, Started, no_start, told_occupied};
+ghost use Rattle.quota.specs.Layer.{store_state, memory_of, SoundOf, Asks, Leads, reached, stops, with_used, Started, no_start, told_occupied};
 
 use bitmap::Slot;
 use runs::entry::Entry;
@@ -100,7 +100,7 @@ impl<E: Entry, S: RunStore<Item = E>> RunStore for Quota<S> {
 
     ghost model = { capped S.RunStore.model };
 
-    ghost state = { StateOf S.RunStore };
+    ghost state = { store_state S.RunStore };
 
     ghost Valid = { λ s. S.RunStore.Valid s.below };
 
@@ -110,7 +110,7 @@ impl<E: Entry, S: RunStore<Item = E>> RunStore for Quota<S> {
 
     ghost Memory = { S.RunStore.Memory × ℕ × ℕ };
 
-    ghost memory = { MemoryOf S.RunStore };
+    ghost memory = { memory_of S.RunStore };
 
     ghost sound = { SoundOf S.RunStore };
 
@@ -160,7 +160,7 @@ impl<E: Entry, S: RunStore<Item = E>> Quota<S> {
     fn may_grow(&mut self, n: u32) -> Result<(), StoreFault>
         requires { SoundOf S.RunStore self.old }
         ensures asked { Asks S.RunStore self.old self.new }
-        ensures answer { Says told result (grows (capped S.RunStore.model) (StateOf S.RunStore self.old) n) }
+        ensures answer { Says told result (grows (capped S.RunStore.model) (store_state S.RunStore self.old) n) }
     {
         if self.at_limit(n) {
             return Err(StoreFault::LimitReached(0));
@@ -174,7 +174,7 @@ impl<E: Entry, S: RunStore<Item = E>> Quota<S> {
     fn may_shrink(&mut self, n: u32) -> Result<(), StoreFault>
         requires { SoundOf S.RunStore self.old }
         ensures asked { Asks S.RunStore self.old self.new }
-        ensures answer { Says told result (shrinks (capped S.RunStore.model) (StateOf S.RunStore self.old) n) }
+        ensures answer { Says told result (shrinks (capped S.RunStore.model) (store_state S.RunStore self.old) n) }
     {
         match self.below.shrink(n) {
             Ok(_) => Ok(()),
@@ -186,10 +186,10 @@ impl<E: Entry, S: RunStore<Item = E>> Quota<S> {
     fn replace(&mut self, at: E::Index, slot: Slot, e: E) -> Result<E, StoreFault>
         requires { SoundOf S.RunStore self.old }
         ensures called { Leads S.RunStore self.old
-            (no_entry (capped S.RunStore.model) (StateOf S.RunStore self.old) (E.Entry.number at) slot.number)
-            ((capped S.RunStore.model).exchanged (StateOf S.RunStore self.old) (E.Entry.number at) slot.number e)
+            (no_entry (capped S.RunStore.model) (store_state S.RunStore self.old) (E.Entry.number at) slot.number)
+            ((capped S.RunStore.model).exchanged (store_state S.RunStore self.old) (E.Entry.number at) slot.number e)
             self.new }
-        ensures answer { Tells told result (no_entry (capped S.RunStore.model) (StateOf S.RunStore self.old) (E.Entry.number at) slot.number)
+        ensures answer { Tells told result (no_entry (capped S.RunStore.model) (store_state S.RunStore self.old) (E.Entry.number at) slot.number)
             (λ old. nth (S.RunStore.model.live (S.RunStore.state self.old.below) (E.Entry.number at)) slot.number ≡ Some old) }
     {
         match self.below.exchange(at, slot, e) {
@@ -201,11 +201,11 @@ impl<E: Entry, S: RunStore<Item = E>> Quota<S> {
     fn open_run(&mut self, e: E) -> Result<E::Index, StoreFault>
         requires { SoundOf S.RunStore self.old }
         ensures called { Leads S.RunStore self.old
-            (grows (capped S.RunStore.model) (StateOf S.RunStore self.old) 0)
-            ((capped S.RunStore.model).opened (StateOf S.RunStore self.old) e)
+            (grows (capped S.RunStore.model) (store_state S.RunStore self.old) 0)
+            ((capped S.RunStore.model).opened (store_state S.RunStore self.old) e)
             self.new }
-        ensures answer { Tells told result (grows (capped S.RunStore.model) (StateOf S.RunStore self.old) 0)
-            (λ j. E.Entry.number j ≡ (capped S.RunStore.model).opened_at (StateOf S.RunStore self.old) e) }
+        ensures answer { Tells told result (grows (capped S.RunStore.model) (store_state S.RunStore self.old) 0)
+            (λ j. E.Entry.number j ≡ (capped S.RunStore.model).opened_at (store_state S.RunStore self.old) e) }
     {
         if self.at_limit(0) {
             return Err(StoreFault::LimitReached(0));
@@ -222,11 +222,11 @@ impl<E: Entry, S: RunStore<Item = E>> Quota<S> {
     fn put_in(&mut self, at: E::Index, slot: Slot, e: E) -> Result<E::Index, StoreFault>
         requires { SoundOf S.RunStore self.old }
         ensures called { Leads S.RunStore self.old
-            (no_insert (capped S.RunStore.model) (StateOf S.RunStore self.old) (E.Entry.number at) slot.number)
-            ((capped S.RunStore.model).inserted (StateOf S.RunStore self.old) (E.Entry.number at) slot.number e)
+            (no_insert (capped S.RunStore.model) (store_state S.RunStore self.old) (E.Entry.number at) slot.number)
+            ((capped S.RunStore.model).inserted (store_state S.RunStore self.old) (E.Entry.number at) slot.number e)
             self.new }
-        ensures answer { Tells told result (no_insert (capped S.RunStore.model) (StateOf S.RunStore self.old) (E.Entry.number at) slot.number)
-            (λ j. E.Entry.number j ≡ (capped S.RunStore.model).inserted_at (StateOf S.RunStore self.old) (E.Entry.number at) slot.number e) }
+        ensures answer { Tells told result (no_insert (capped S.RunStore.model) (store_state S.RunStore self.old) (E.Entry.number at) slot.number)
+            (λ j. E.Entry.number j ≡ (capped S.RunStore.model).inserted_at (store_state S.RunStore self.old) (E.Entry.number at) slot.number e) }
     {
         if self.stops_insert(at, slot) {
             return Err(StoreFault::LimitReached(0));
@@ -243,12 +243,12 @@ impl<E: Entry, S: RunStore<Item = E>> Quota<S> {
     fn take_out(&mut self, at: E::Index, slot: Slot) -> Result<(E, E::Index), StoreFault>
         requires { SoundOf S.RunStore self.old }
         ensures called { Leads S.RunStore self.old
-            (no_remove (capped S.RunStore.model) (StateOf S.RunStore self.old) (E.Entry.number at) slot.number)
-            ((capped S.RunStore.model).removed (StateOf S.RunStore self.old) (E.Entry.number at) slot.number)
+            (no_remove (capped S.RunStore.model) (store_state S.RunStore self.old) (E.Entry.number at) slot.number)
+            ((capped S.RunStore.model).removed (store_state S.RunStore self.old) (E.Entry.number at) slot.number)
             self.new }
-        ensures answer { Tells told result (no_remove (capped S.RunStore.model) (StateOf S.RunStore self.old) (E.Entry.number at) slot.number)
+        ensures answer { Tells told result (no_remove (capped S.RunStore.model) (store_state S.RunStore self.old) (E.Entry.number at) slot.number)
             (λ x. (nth (S.RunStore.model.live (S.RunStore.state self.old.below) (E.Entry.number at)) slot.number ≡ Some x.0)
-            × (E.Entry.number x.1 ≡ (capped S.RunStore.model).removed_at (StateOf S.RunStore self.old) (E.Entry.number at) slot.number)) }
+            × (E.Entry.number x.1 ≡ (capped S.RunStore.model).removed_at (store_state S.RunStore self.old) (E.Entry.number at) slot.number)) }
     {
         match self.below.remove(at, slot) {
             Ok(taken) => {

@@ -6,7 +6,7 @@ ghost use Rattle.store_clients.specs.Trips.{ends, whole, Removes, Left};
 ghost use Rattle.runs.specs.Calls.{Says};
 ghost use Rattle.runs.specs.Runs.{count};
 ghost use Rattle.quota_model.specs.Quotas.{capped};
-ghost use Rattle.quota.specs.Layer.{told_occupied, no_start};
+ghost use Rattle.quota.specs.Layer.{told_occupied, no_start, upper_state};
 
 use bitmap::Slot;
 use quota::quota::{Occupied, Quota};
@@ -20,6 +20,7 @@ pub fn there_and_back<E: Entry, S: RunStore<Item = E>>(store: &mut S, first: E, 
     requires { S.RunStore.sound store.old }
     ensures kept { S.RunStore.sound store.new }
     ensures answer { result ≡ whole S.RunStore.model (S.RunStore.state store.old) first second }
+    ensures after { S.RunStore.state store.new ≡ ends S.RunStore.model (S.RunStore.state store.old) first second }
     ensures back { result ≡ true → S.RunStore.model.live (S.RunStore.state store.new) ≡ S.RunStore.model.live (S.RunStore.state store.old) }
     ensures left { Left (S.RunStore.model.live (S.RunStore.state store.old)) first second (S.RunStore.model.live (S.RunStore.state store.new)) }
     ensures removes { Removes S.RunStore.model S.RunStore.longest S.RunStore.Valid → S.RunStore.model.live (S.RunStore.state store.new) ≡ S.RunStore.model.live (S.RunStore.state store.old) }
@@ -57,6 +58,7 @@ pub fn under_two_limits<E: Entry, S: RunStore<Item = E>>(
     requires { S.RunStore.sound below }
     ensures answer { Says told_occupied result (no_start (count (S.RunStore.model.live (S.RunStore.state below)))) }
     ensures trip { IfOk result (λ x. x.0 ≡ whole (capped (capped S.RunStore.model)) record { limit = outer; below = record { limit = inner; below = S.RunStore.state below } } first second) }
+    ensures after { IfOk result (λ x. upper_state S.RunStore x.1 ≡ ends (capped (capped S.RunStore.model)) record { limit = outer; below = record { limit = inner; below = S.RunStore.state below } } first second) }
 {
     limit_and_go(below, inner, outer, first, second)
 }
@@ -71,6 +73,7 @@ fn limit_and_go<E: Entry, S: RunStore<Item = E>>(
     requires { S.RunStore.sound below }
     ensures answer { Says told_occupied result (no_start (count (S.RunStore.model.live (S.RunStore.state below)))) }
     ensures trip { IfOk result (λ x. x.0 ≡ whole (capped (capped S.RunStore.model)) record { limit = outer; below = record { limit = inner; below = S.RunStore.state below } } first second) }
+    ensures after { IfOk result (λ x. upper_state S.RunStore x.1 ≡ ends (capped (capped S.RunStore.model)) record { limit = outer; below = record { limit = inner; below = S.RunStore.state below } } first second) }
 {
     let lower = match Quota::start(below, inner) {
         Ok(q) => q,

@@ -15,16 +15,16 @@ pub data Growing {E : Type 0} (before : ℕ → List E) (i k : ℕ) (e : E) (j :
   inserted : Moved before i j (with_new (before i) k e) after → Growing before i k e j after
 
 -- The record at p is written back as s: as the root, or by exchanging the entry in its parent's run. The parent was found before the node runs became `mid`.
-pub data Written (nodes : ℕ → List NodeRow) (root : NodeRow) (mid : ℕ → List NodeRow) (p : Path) (r : NodeRow) (after : ℕ → List NodeRow) (root-after : NodeRow) : Type 0 where
-  at_root : p ≡ [] → root-after ≡ r → after ≡ mid → Written nodes root mid p r after root-after
-  in_run : (q : Path) (c : ℕ) (s : NodeRow) → p ≡ q ++ c ∷ [] → find nodes root q ≡ Some s → root-after ≡ root → after ≡ at mid s.children_index (set (mid s.children_index) (rank s.child_bitmap c) r) → Written nodes root mid p r after root-after
+pub data Written (nodes : ℕ → List NodeRow) (root : NodeRow) (mid : ℕ → List NodeRow) (p : Path) (r : NodeRow) (after : ℕ → List NodeRow) (root_after : NodeRow) : Type 0 where
+  at_root : p ≡ [] → root_after ≡ r → after ≡ mid → Written nodes root mid p r after root_after
+  in_run : (q : Path) (c : ℕ) (s : NodeRow) → p ≡ q ++ c ∷ [] → find nodes root q ≡ Some s → root_after ≡ root → after ≡ at mid s.children_index (set (mid s.children_index) (rank s.child_bitmap c) r) → Written nodes root mid p r after root_after
 
 -- nothing is live at or above the last index
 abbrev pub Low : {E : Type 0} → (ℕ → List E) → Type 0
 Low m = (i : ℕ) → indexes ≤ i → m i ≡ []
 
 -- Put: v at the clear bit b of the node at p.
-pub record Put {V : Type 0} (nodes : ℕ → List NodeRow) (vals : ℕ → List V) (root : NodeRow) (p : Path) (b : ℕ) (v : V) (nodes-after : ℕ → List NodeRow) (vals-after : ℕ → List V) (root-after : NodeRow) : Type 0 where
+pub record Put {V : Type 0} (nodes : ℕ → List NodeRow) (vals : ℕ → List V) (root : NodeRow) (p : Path) (b : ℕ) (v : V) (nodes_after : ℕ → List NodeRow) (vals_after : ℕ → List V) (root_after : NodeRow) : Type 0 where
   pub r : NodeRow
   pub found : find nodes root p ≡ Some r
   pub small : b < 31
@@ -33,17 +33,17 @@ pub record Put {V : Type 0} (nodes : ℕ → List NodeRow) (vals : ℕ → List 
   pub fits : bitmap < 2 ^ 31
   pub index : ℕ
   pub low_before : Low vals
-  pub low : Low vals-after
-  pub grown : Growing vals r.data_index (rank r.data_bitmap b) v index vals-after
-  pub written : Written nodes root nodes p (with_data r bitmap index) nodes-after root-after
+  pub low : Low vals_after
+  pub grown : Growing vals r.data_index (rank r.data_bitmap b) v index vals_after
+  pub written : Written nodes root nodes p (with_data r bitmap index) nodes_after root_after
 
 abbrev pub PutLaw : Type 0 → Type 0
-PutLaw V = (nodes nodes-after : ℕ → List NodeRow) (vals vals-after : ℕ → List V) (root root-after : NodeRow) (p : Path) (b : ℕ) (v : V) →
-    Agrees nodes vals root → Put nodes vals root p b v nodes-after vals-after root-after →
-    Agrees nodes-after vals-after root-after × (tree_of nodes-after vals-after root-after ≡ with_val (tree_of nodes vals root) p b (Some v))
+PutLaw V = (nodes nodes_after : ℕ → List NodeRow) (vals vals_after : ℕ → List V) (root root_after : NodeRow) (p : Path) (b : ℕ) (v : V) →
+    Agrees nodes vals root → Put nodes vals root p b v nodes_after vals_after root_after →
+    Agrees nodes_after vals_after root_after × (tree_of nodes_after vals_after root_after ≡ with_val (tree_of nodes vals root) p b (Some v))
 
 -- Take: the value at the set bit b of the node at p goes.
-pub record Take {V : Type 0} (nodes : ℕ → List NodeRow) (vals : ℕ → List V) (root : NodeRow) (p : Path) (b : ℕ) (nodes-after : ℕ → List NodeRow) (vals-after : ℕ → List V) (root-after : NodeRow) : Type 0 where
+pub record Take {V : Type 0} (nodes : ℕ → List NodeRow) (vals : ℕ → List V) (root : NodeRow) (p : Path) (b : ℕ) (nodes_after : ℕ → List NodeRow) (vals_after : ℕ → List V) (root_after : NodeRow) : Type 0 where
   pub r : NodeRow
   pub found : find nodes root p ≡ Some r
   pub small : b < 31
@@ -52,31 +52,31 @@ pub record Take {V : Type 0} (nodes : ℕ → List NodeRow) (vals : ℕ → List
   pub fits : bitmap < 2 ^ 31
   pub index : ℕ
   pub low_before : Low vals
-  pub low : Low vals-after
-  pub shrunk : Removing vals r.data_index (rank r.data_bitmap b) index vals-after
-  pub written : Written nodes root nodes p (with_data r bitmap index) nodes-after root-after
+  pub low : Low vals_after
+  pub shrunk : Removing vals r.data_index (rank r.data_bitmap b) index vals_after
+  pub written : Written nodes root nodes p (with_data r bitmap index) nodes_after root_after
 
 abbrev pub TakeLaw : Type 0 → Type 0
-TakeLaw V = (nodes nodes-after : ℕ → List NodeRow) (vals vals-after : ℕ → List V) (root root-after : NodeRow) (p : Path) (b : ℕ) →
-    Agrees nodes vals root → Take nodes vals root p b nodes-after vals-after root-after →
-    Agrees nodes-after vals-after root-after × (tree_of nodes-after vals-after root-after ≡ with_val (tree_of nodes vals root) p b None)
+TakeLaw V = (nodes nodes_after : ℕ → List NodeRow) (vals vals_after : ℕ → List V) (root root_after : NodeRow) (p : Path) (b : ℕ) →
+    Agrees nodes vals root → Take nodes vals root p b nodes_after vals_after root_after →
+    Agrees nodes_after vals_after root_after × (tree_of nodes_after vals_after root_after ≡ with_val (tree_of nodes vals root) p b None)
 
 -- Swap: v for the value at the set bit b of the node at p; no record changes.
-pub record Swap {V : Type 0} (nodes : ℕ → List NodeRow) (vals : ℕ → List V) (root : NodeRow) (p : Path) (b : ℕ) (v : V) (vals-after : ℕ → List V) : Type 0 where
+pub record Swap {V : Type 0} (nodes : ℕ → List NodeRow) (vals : ℕ → List V) (root : NodeRow) (p : Path) (b : ℕ) (v : V) (vals_after : ℕ → List V) : Type 0 where
   pub r : NodeRow
   pub found : find nodes root p ≡ Some r
   pub here : bit r.data_bitmap b ≡ 1
   pub low_before : Low vals
-  pub low : Low vals-after
-  pub exchanged : vals-after ≡ at vals r.data_index (set (vals r.data_index) (rank r.data_bitmap b) v)
+  pub low : Low vals_after
+  pub exchanged : vals_after ≡ at vals r.data_index (set (vals r.data_index) (rank r.data_bitmap b) v)
 
 abbrev pub SwapLaw : Type 0 → Type 0
-SwapLaw V = (nodes : ℕ → List NodeRow) (vals vals-after : ℕ → List V) (root : NodeRow) (p : Path) (b : ℕ) (v : V) →
-    Agrees nodes vals root → Swap nodes vals root p b v vals-after →
-    Agrees nodes vals-after root × (tree_of nodes vals-after root ≡ with_val (tree_of nodes vals root) p b (Some v))
+SwapLaw V = (nodes : ℕ → List NodeRow) (vals vals_after : ℕ → List V) (root : NodeRow) (p : Path) (b : ℕ) (v : V) →
+    Agrees nodes vals root → Swap nodes vals root p b v vals_after →
+    Agrees nodes vals_after root × (tree_of nodes vals_after root ≡ with_val (tree_of nodes vals root) p b (Some v))
 
 -- Add: a bare child at the clear child bit b of the node at p.
-pub record Add (nodes : ℕ → List NodeRow) (root : NodeRow) (p : Path) (b : ℕ) (nodes-after : ℕ → List NodeRow) (root-after : NodeRow) : Type 0 where
+pub record Add (nodes : ℕ → List NodeRow) (root : NodeRow) (p : Path) (b : ℕ) (nodes_after : ℕ → List NodeRow) (root_after : NodeRow) : Type 0 where
   pub r : NodeRow
   pub found : find nodes root p ≡ Some r
   pub short : length p < 25
@@ -88,15 +88,15 @@ pub record Add (nodes : ℕ → List NodeRow) (root : NodeRow) (p : Path) (b : �
   pub mid : ℕ → List NodeRow
   pub low : Low mid
   pub grown : Growing nodes r.children_index (rank r.child_bitmap b) bare_row index mid
-  pub written : Written nodes root mid p (with_children r bitmap index) nodes-after root-after
+  pub written : Written nodes root mid p (with_children r bitmap index) nodes_after root_after
 
 abbrev pub AddLaw : Type 0 → Type 0
-AddLaw V = (nodes nodes-after : ℕ → List NodeRow) (vals : ℕ → List V) (root root-after : NodeRow) (p : Path) (b : ℕ) →
-    Agrees nodes vals root → Add nodes root p b nodes-after root-after →
-    Agrees nodes-after vals root-after × (tree_of nodes-after vals root-after ≡ with_path (tree_of nodes vals root) (p ++ b ∷ []) true)
+AddLaw V = (nodes nodes_after : ℕ → List NodeRow) (vals : ℕ → List V) (root root_after : NodeRow) (p : Path) (b : ℕ) →
+    Agrees nodes vals root → Add nodes root p b nodes_after root_after →
+    Agrees nodes_after vals root_after × (tree_of nodes_after vals root_after ≡ with_path (tree_of nodes vals root) (p ++ b ∷ []) true)
 
 -- Drop: the child at the set child bit b of the node at p goes, which has no value and no child.
-pub record Drop (nodes : ℕ → List NodeRow) (root : NodeRow) (p : Path) (b : ℕ) (nodes-after : ℕ → List NodeRow) (root-after : NodeRow) : Type 0 where
+pub record Drop (nodes : ℕ → List NodeRow) (root : NodeRow) (p : Path) (b : ℕ) (nodes_after : ℕ → List NodeRow) (root_after : NodeRow) : Type 0 where
   pub r : NodeRow
   pub found : find nodes root p ≡ Some r
   pub gone : NodeRow
@@ -111,12 +111,12 @@ pub record Drop (nodes : ℕ → List NodeRow) (root : NodeRow) (p : Path) (b : 
   pub mid : ℕ → List NodeRow
   pub low : Low mid
   pub shrunk : Removing nodes r.children_index (rank r.child_bitmap b) index mid
-  pub written : Written nodes root mid p (with_children r bitmap index) nodes-after root-after
+  pub written : Written nodes root mid p (with_children r bitmap index) nodes_after root_after
 
 abbrev pub DropLaw : Type 0 → Type 0
-DropLaw V = (nodes nodes-after : ℕ → List NodeRow) (vals : ℕ → List V) (root root-after : NodeRow) (p : Path) (b : ℕ) →
-    Agrees nodes vals root → Drop nodes root p b nodes-after root-after →
-    Agrees nodes-after vals root-after × (tree_of nodes-after vals root-after ≡ with_path (tree_of nodes vals root) (p ++ b ∷ []) false)
+DropLaw V = (nodes nodes_after : ℕ → List NodeRow) (vals : ℕ → List V) (root root_after : NodeRow) (p : Path) (b : ℕ) →
+    Agrees nodes vals root → Drop nodes root p b nodes_after root_after →
+    Agrees nodes_after vals root_after × (tree_of nodes_after vals root_after ≡ with_path (tree_of nodes vals root) (p ++ b ∷ []) false)
 
 -- Start: the bare root over stores with no live run.
 abbrev pub StartLaw : Type 0 → Type 0
@@ -124,13 +124,13 @@ StartLaw V = (nodes : ℕ → List NodeRow) (vals : ℕ → List V) → ((i : �
     Agrees nodes vals bare_row × (tree_of nodes vals bare_row ≡ bare)
 
 -- Plant: a child at the clear child bit b of the node at p, and v at its data bit 0.
-pub record Plant {V : Type 0} (nodes : ℕ → List NodeRow) (vals : ℕ → List V) (root : NodeRow) (p : Path) (b : ℕ) (v : V) (nodes-after : ℕ → List NodeRow) (vals-after : ℕ → List V) (root-after : NodeRow) : Type 0 where
+pub record Plant {V : Type 0} (nodes : ℕ → List NodeRow) (vals : ℕ → List V) (root : NodeRow) (p : Path) (b : ℕ) (v : V) (nodes_after : ℕ → List NodeRow) (vals_after : ℕ → List V) (root_after : NodeRow) : Type 0 where
   pub nodes_between : ℕ → List NodeRow
   pub root_between : NodeRow
   pub add : Add nodes root p b nodes_between root_between
-  pub put : Put nodes_between vals root_between (p ++ b ∷ []) 0 v nodes-after vals-after root-after
+  pub put : Put nodes_between vals root_between (p ++ b ∷ []) 0 v nodes_after vals_after root_after
 
 abbrev pub PlantLaw : Type 0 → Type 0
-PlantLaw V = (nodes nodes-after : ℕ → List NodeRow) (vals vals-after : ℕ → List V) (root root-after : NodeRow) (p : Path) (b : ℕ) (v : V) →
-    Agrees nodes vals root → Plant nodes vals root p b v nodes-after vals-after root-after →
-    Agrees nodes-after vals-after root-after × (tree_of nodes-after vals-after root-after ≡ with_val (with_path (tree_of nodes vals root) (p ++ b ∷ []) true) (p ++ b ∷ []) 0 (Some v))
+PlantLaw V = (nodes nodes_after : ℕ → List NodeRow) (vals vals_after : ℕ → List V) (root root_after : NodeRow) (p : Path) (b : ℕ) (v : V) →
+    Agrees nodes vals root → Plant nodes vals root p b v nodes_after vals_after root_after →
+    Agrees nodes_after vals_after root_after × (tree_of nodes_after vals_after root_after ≡ with_val (with_path (tree_of nodes vals root) (p ++ b ∷ []) true) (p ++ b ∷ []) 0 (Some v))

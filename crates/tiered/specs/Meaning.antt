@@ -4,8 +4,8 @@ use Rattle.tiered_model.specs.Tiered.{State}
 use Rattle.tiered_model.specs.Ledger.{state_of, Sound}
 use Rattle.tiered.specs.declared.Tiered.{Tiered}
 
-abbrev pub StateOf : {E : Type 0} → Tiered E → State E
-StateOf t = state_of t.cells.now t.ledger.now t.claimed t.heads
+abbrev pub store_state : {E : Type 0} → Tiered E → State E
+store_state t = state_of t.cells.now t.ledger.now t.claimed t.heads
 
 abbrev pub SoundOf : {E : Type 0} → ℕ → Tiered E → Type 0
 SoundOf longest t = Sound longest t.cells.now t.ledger.now t.claimed t.heads t.runs

@@ -3,7 +3,7 @@ ghost use Rattle.std.specs.Prelude.{◌≡◌};
 ghost use Rattle.tiered_model.specs.Tiered.{State, tiered};
 ghost use Rattle.tiered_model.specs.Groups.{Valid, groups, cells_of};
 ghost use Rattle.tiered_model.proofs.Lawful.{lawful};
-ghost use Rattle.tiered.specs.Meaning.{StateOf, SoundOf, Memory, memory_of};
+ghost use Rattle.tiered.specs.Meaning.{store_state, SoundOf, Memory, memory_of};
 
 use super::Tiered;
 use bitmap::Slot;
@@ -14,8 +14,8 @@ use runs::store::RunStore;
 impl<'a, E: Entry> Tiered<'a, E> {
     // The claimed cells: they are the cells of all groups, of live runs and freed.
     pub fn claimed(&self) -> u32
-        ensures state { result ≡ (StateOf self.now).claimed }
-        ensures sum { SoundOf E.Entry.longest self.now → result ≡ cells_of E.Entry.longest (groups E.Entry.longest (StateOf self.now)) }
+        ensures state { result ≡ (store_state self.now).claimed }
+        ensures sum { SoundOf E.Entry.longest self.now → result ≡ cells_of E.Entry.longest (groups E.Entry.longest (store_state self.now)) }
     {
         self.claimed
     }
@@ -28,7 +28,7 @@ impl<'a, E: Entry> RunStore for Tiered<'a, E> {
 
     ghost model = { tiered E.Entry.longest };
 
-    ghost state = { λ t. StateOf t };
+    ghost state = { λ t. store_state t };
 
     ghost Valid = { Valid E.Entry.longest };
 

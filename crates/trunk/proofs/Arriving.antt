@@ -8,7 +8,7 @@ use Rattle.runs.specs.declared.store.RunStore.{Ghosts}
 use Rattle.runs.proofs.Shifts.{never}
 use Rattle.table_model.specs.Tree.{Tree}
 use Rattle.table_model.specs.Table.{Agrees}
-use Rattle.table_model.specs.States.{Table as States, tree_in, Sound as Sound-states}
+use Rattle.table_model.specs.States.{Table as States, tree_in, Sound as SoundStates}
 use Rattle.table_model.proofs.Doing.{Arrives}
 use Rattle.trunk.specs.declared.Trunk.{Trunk}
 use Rattle.trunk.specs.Meaning.{states, Sound, Untouched}
@@ -17,7 +17,7 @@ use Rattle.trunk.specs.Steps.{Since}
 use Rattle.trunk.proofs.Seen.{untouched_on}
 
 module _ {E Ix N V : Type 0} (n : Ghosts N NodeRow NodeIndex) (v : Ghosts V E Ix) where
-  pub valid : (t : Trunk N V) → Sound n v t → Sound-states n.model v.model n.Valid v.Valid (states n v t)
+  pub valid : (t : Trunk N V) → Sound n v t → SoundStates n.model v.model n.Valid v.Valid (states n v t)
   valid t s = record { nodes_valid = n.valid t.nodes s.nodes; vals_valid = v.valid t.values s.values; agrees = s.agrees }
 
   module _ {X : Type 0} (W : States n.State v.State → Grant) (Q : States n.State v.State → X → Type 0) (t u : Trunk N V) (x : X) where

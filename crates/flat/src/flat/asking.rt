@@ -4,7 +4,7 @@ ghost use Rattle.runs.specs.Refusals.{told};
 ghost use Rattle.runs.specs.Runs.{grows, shrinks, no_entry, no_insert, no_remove};
 ghost use Rattle.runs.specs.Calls.{Says, Tells};
 ghost use Rattle.flat_model.specs.Flat.{flat, has};
-ghost use Rattle.flat.specs.Meaning.{StateOf, SoundOf};
+ghost use Rattle.flat.specs.Meaning.{store_state, SoundOf};
 
 use super::Flat;
 use runs::entry::Entry;
@@ -13,7 +13,7 @@ use runs::fault::StoreFault;
 impl<'a, E: Entry> Flat<'a, E> {
     // How many cells have ever been in a group.
     pub fn claimed(&self) -> u32
-        ensures { result ≡ (StateOf self.now).claimed }
+        ensures { result ≡ (store_state self.now).claimed }
     {
         self.claimed
     }
@@ -21,7 +21,7 @@ impl<'a, E: Entry> Flat<'a, E> {
     // How many entries the run at an index has; 0 where none is live.
     pub(super) fn run_length(&self, at: u32) -> u32
         requires { SoundOf E.Entry.longest self.now }
-        ensures { result ≡ length ((StateOf self.now).live at) }
+        ensures { result ≡ length ((store_state self.now).live at) }
     {
         if (at as usize) < self.ledger.len() {
             (self.ledger[at as usize] % 64) as u32
@@ -33,7 +33,7 @@ impl<'a, E: Entry> Flat<'a, E> {
     // Whether a group can be had.
     fn has_group(&self) -> bool
         requires { SoundOf E.Entry.longest self.now }
-        ensures { result ≡ has E.Entry.longest (StateOf self.now) }
+        ensures { result ≡ has E.Entry.longest (store_state self.now) }
     {
         if self.head > 0 {
             true
@@ -45,7 +45,7 @@ impl<'a, E: Entry> Flat<'a, E> {
     // Whether a run of n entries can have one more; only the first needs a group.
     pub(super) fn may_grow(&self, n: u32) -> Result<(), StoreFault>
         requires { SoundOf E.Entry.longest self.now }
-        ensures { Says told result (grows (flat E.Entry.longest) (StateOf self.now) n) }
+        ensures { Says told result (grows (flat E.Entry.longest) (store_state self.now) n) }
     {
         if n >= E::longest_run() {
             return Err(StoreFault::AtLongest);
@@ -63,7 +63,7 @@ impl<'a, E: Entry> Flat<'a, E> {
     // Whether a run of n entries can have one less.
     pub(super) fn may_shrink(&self, n: u32) -> Result<(), StoreFault>
         requires { SoundOf E.Entry.longest self.now }
-        ensures { Says told result (shrinks (flat E.Entry.longest) (StateOf self.now) n) }
+        ensures { Says told result (shrinks (flat E.Entry.longest) (store_state self.now) n) }
     {
         if n == 0 {
             return Err(StoreFault::BadSlot);
@@ -77,8 +77,8 @@ impl<'a, E: Entry> Flat<'a, E> {
     // The length of the run at an index that has the slot.
     pub(super) fn may_read(&self, at: u32, slot: u32) -> Result<u32, StoreFault>
         requires { SoundOf E.Entry.longest self.now }
-        ensures { Tells told result (no_entry (flat E.Entry.longest) (StateOf self.now) at slot)
-            (λ n. n ≡ length ((StateOf self.now).live at)) }
+        ensures { Tells told result (no_entry (flat E.Entry.longest) (store_state self.now) at slot)
+            (λ n. n ≡ length ((store_state self.now).live at)) }
     {
         let n = self.run_length(at);
         if n == 0 {
@@ -93,8 +93,8 @@ impl<'a, E: Entry> Flat<'a, E> {
     // The length of the run at an index that may get an entry before the slot.
     pub(super) fn may_insert(&self, at: u32, slot: u32) -> Result<u32, StoreFault>
         requires { SoundOf E.Entry.longest self.now }
-        ensures { Tells told result (no_insert (flat E.Entry.longest) (StateOf self.now) at slot)
-            (λ n. n ≡ length ((StateOf self.now).live at)) }
+        ensures { Tells told result (no_insert (flat E.Entry.longest) (store_state self.now) at slot)
+            (λ n. n ≡ length ((store_state self.now).live at)) }
     {
         let n = self.run_length(at);
         if n == 0 {
@@ -112,8 +112,8 @@ impl<'a, E: Entry> Flat<'a, E> {
     // The length of the run at an index that may lose the entry at the slot.
     pub(super) fn may_remove(&self, at: u32, slot: u32) -> Result<u32, StoreFault>
         requires { SoundOf E.Entry.longest self.now }
-        ensures { Tells told result (no_remove (flat E.Entry.longest) (StateOf self.now) at slot)
-            (λ n. n ≡ length ((StateOf self.now).live at)) }
+        ensures { Tells told result (no_remove (flat E.Entry.longest) (store_state self.now) at slot)
+            (λ n. n ≡ length ((store_state self.now).live at)) }
     {
         match self.may_read(at, slot) {
             Ok(n) => match self.may_shrink(n) {

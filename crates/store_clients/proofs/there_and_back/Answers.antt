@@ -13,6 +13,7 @@ returns g c =
     record {
       kept = o.kept;
       answer = o.answer;
+      after = o.after;
       back = λ y. at ∙ e.back (sym o.answer ∙ y);
       left = subst (λ h. Left (b.model.live (b.state t)) c.args.first c.args.second h) (sym at) e.left;
       removes = λ r. at ∙ e.removes r;

@@ -1,7 +1,7 @@
 use Rattle.std.proofs.Common.{◌≡◌, take, drop, sym, ap, ◌∙◌, arith}
 use Rattle.tiered.proofs.Tiered.resize.Goals as goal
 use Rattle.runs.specs.Sizes.{size}
-use Rattle.tiered.specs.Meaning.{StateOf}
+use Rattle.tiered.specs.Meaning.{store_state}
 use Rattle.tiered_model.proofs.Changes.{window_fits}
 use Rattle.tiered_model.proofs.Moves.{resized_here, change_had}
 
@@ -20,10 +20,10 @@ returns-then-old-new g c =
     let f = window_fits g.E.Entry.longest g.E.Entry.wide g.E.Entry.narrow _ _ _ _ _ c.requires.sound c.args.at c.args.n c.args.m c.requires.old.1 c.requires.old.0 c.requires.new.0 c.requires.new.1 e in
     record {
       sound = c.lengthen.ensures.sound;
-      after = resized_here g.E.Entry.longest g.E.Entry.wide g.E.Entry.narrow (StateOf c.args.self.now) c.requires.sound.valid c.args.at c.args.n c.requires.old.1 c.requires.old.0 c.args.m c.requires.new.0 c.requires.new.1 (StateOf c.lengthen.new.self) ys e f.0 c.lengthen.ensures.after f.1;
+      after = resized_here g.E.Entry.longest g.E.Entry.wide g.E.Entry.narrow (store_state c.args.self.now) c.requires.sound.valid c.args.at c.args.n c.requires.old.1 c.requires.old.0 c.args.m c.requires.new.0 c.requires.new.1 (store_state c.lengthen.new.self) ys e f.0 c.lengthen.ensures.after f.1;
     }
 
 pub move_run-requires : goal.move_run-requires
 move_run-requires g c =
     let ne : size g.E.Entry.longest c.args.n ≡ size g.E.Entry.longest c.args.m → ⊥ = λ q. c.if-old-new.false (c.size-old.ensures ∙ q ∙ sym c.size-new.ensures) in
-    record { sound = c.requires.sound; old = c.requires.old; new = c.requires.new; other = ne; has = change_had (StateOf c.args.self.now) _ _ c.requires.may ne }
+    record { sound = c.requires.sound; old = c.requires.old; new = c.requires.new; other = ne; has = change_had (store_state c.args.self.now) _ _ c.requires.may ne }

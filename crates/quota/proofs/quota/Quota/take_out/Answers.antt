@@ -3,7 +3,7 @@ use Rattle.runs.specs.Runs.{no_remove}
 use Rattle.quota_model.specs.Quotas.{capped}
 use Rattle.quota_model.proofs.Grants.{remove_passed}
 use Rattle.quota_model.proofs.Totals.{counted}
-use Rattle.quota.specs.Layer.{StateOf, MemoryOf, SoundOf}
+use Rattle.quota.specs.Layer.{store_state, memory_of, SoundOf}
 use Rattle.quota.proofs.Layers.{unasked, handed_refused, handed_accepted}
 use Rattle.quota.proofs.quota.Quota.take_out.Goals as goal
 
@@ -23,7 +23,7 @@ returns-in-Ok g c =
     let o = c.in-Ok.ensures in
     let n = (counted b.lawful).removing (b.state q.below) i k (b.valid q.below c.requires.0) o.answer.0 in
     let h = handed_accepted b (λ s. no_remove (capped b.model) s i k) (λ s. no_remove b.model s i k) (λ s. b.model.removed s i k) q q c.remove.new.self
-    (unasked (SoundOf b) (StateOf b) (MemoryOf b) q c.requires) (remove_passed b.model (StateOf b q) i k) o.called c.lose.new.self _ o.answer.0 (omega (arith, n, c.requires.1)) c.lose.ensures in
+    (unasked (SoundOf b) (store_state b) (memory_of b) q c.requires) (remove_passed b.model (store_state b q) i k) o.called c.lose.new.self _ o.answer.0 (omega (arith, n, c.requires.1)) c.lose.ensures in
     record { called = h.0; answer = (h.1, o.answer.1) }
 
 pub returns-in-Err : goal.returns-in-Err
@@ -34,5 +34,5 @@ returns-in-Err g c =
     let q = c.args.self.now in
     let o = c.in-Err.ensures in
     let h = handed_refused b (λ s. no_remove (capped b.model) s i k) (λ s. no_remove b.model s i k) (λ s. b.model.removed s i k) q q c.remove.new.self
-    (unasked (SoundOf b) (StateOf b) (MemoryOf b) q c.requires) (remove_passed b.model (StateOf b q) i k) o.called c.in-Err.f c.crossed.result o.answer c.crossed.ensures in
+    (unasked (SoundOf b) (store_state b) (memory_of b) q c.requires) (remove_passed b.model (store_state b q) i k) o.called c.in-Err.f c.crossed.result o.answer c.crossed.ensures in
     record { called = h.0; answer = h.1 }
