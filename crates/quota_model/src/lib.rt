@@ -9,22 +9,16 @@ use runs::entry::Entry;
 use runs::store::RunStore;
 
 // A limit over a store that obeys the laws obeys them too.
-pub fn limit_is_lawful<E: Entry, S: RunStore<Item = E>>() -> u8
-    ensures { Lawful (capped S.RunStore.model) S.RunStore.longest (λ s. S.RunStore.Valid s.below) }
-{
-    0
-}
+pub fn limit_is_lawful<E: Entry, S: RunStore<Item = E>>()
+    ensures { Lawful (capped S.Runs.model) E.Entry.LONGEST (λ s. S.Runs.Valid s.below) }
+{}
 
 // Every call but an exchange changes the number of entries by one.
-pub fn entries_are_counted<E: Entry, S: RunStore<Item = E>>() -> u8
-    ensures { Counted S.RunStore.model S.RunStore.longest S.RunStore.Valid }
-{
-    0
-}
+pub fn entries_are_counted<E: Entry, S: RunStore<Item = E>>()
+    ensures { Counted S.Runs.model E.Entry.LONGEST S.Runs.Valid }
+{}
 
 // A refusal counts the layers that it crosses.
-pub fn layers_are_counted() -> u8
+pub fn layers_are_counted()
     ensures { Crossing }
-{
-    0
-}
+{}

@@ -1,7 +1,6 @@
 pub mod Table
-pub mod Tiers
 pub mod Sizes
 pub mod Counts
+pub mod Known
 pub mod Nths
-pub mod Steps
 pub mod Shifts

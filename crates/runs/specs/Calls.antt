@@ -16,17 +16,10 @@ abbrev pub moved_on : {S : Type 0} → Grant → S → S → S
 moved_on None s t = t
 moved_on (Some f) s t = s
 
--- a store is `sound` where it agrees with itself and with what is below it; `memory` is all that it holds, to the last cell
-module _ {Self State Memory : Type 0} (sound : Self → Type 0) (state : Self → State) (memory : Self → Memory) where
-  -- a question leaves the state and the memory
-  pub record Asked (before left : Self) : Type 0 where
-    pub kept : sound left
-    pub same : state left ≡ state before
-    pub untouched : memory left ≡ memory before
-
+-- `memory` is all that a store holds, to the last cell
+module _ {Self State Memory : Type 0} (state : Self → State) (memory : Self → Memory) where
   -- a call that is accepted leads to the state `to`; one that is refused leaves the state and the memory
   pub record Called (before : Self) (why : Grant) (to : State) (left : Self) : Type 0 where
-    pub kept : sound left
     pub after : state left ≡ moved_on why (state before) to
     pub untouched : (f : Refusal) → why ≡ Some f → memory left ≡ memory before
 

@@ -3,40 +3,35 @@ ghost use Rattle.std.specs.Prelude.{◌≡◌, ℕ, ◌≤◌};
 ghost use Rattle.std.proofs.Common.{lit≤};
 ghost use Rattle.runs.specs.Sizes.{size};
 
-use crate::capacity::{child_size, data_size};
-use crate::index::{CellIndex, NodeIndex};
+use crate::capacity::run_size;
+use crate::index::{CellIndex, NodeIndex, RunIndex};
+use std::error::Error;
+use std::fmt;
+use std::num::ParseIntError;
+use std::str::FromStr;
 
-// A kind of entry: its longest run, the size of each run, and the index that names one.
+// A kind of entry: how many entries its longest run has, and what names a run.
 pub trait Entry: Copy {
     const LONGEST: u32;
 
-    type Index: Copy;
+    type Index: RunIndex;
 
-    ghost longest: { ℕ };
+    ghost LONGEST: { ℕ };
 
-    ghost wide: { 31 ≤ longest };
+    ghost wide: { 31 ≤ LONGEST };
 
-    ghost narrow: { longest ≤ 32 };
+    ghost narrow: { LONGEST ≤ 32 };
 
-    // the number in an index
-    ghost number: { Self.Index → ℕ };
-
-    fn longest_run() -> u32
-        ensures { result ≡ longest };
-
-    // 0 where no run is so long
-    fn size(n: u32) -> u32
-        ensures { result ≡ size longest n };
-
-    fn index_of(n: u32) -> Self::Index
-        ensures { number result ≡ n };
-
-    fn number_of(i: Self::Index) -> u32
-        ensures { result ≡ number i };
+    // The size of a run of n entries; 0 where no run is so long.
+    final fn size(n: u32) -> u32
+        ensures { result ≡ size LONGEST n }
+    {
+        run_size(Self::LONGEST, n)
+    }
 }
 
 // A stream's mapping: where it goes, and how fast it comes.
-#[derive(Clone, Copy)]
+#[derive(Clone, Copy, Debug, PartialEq, Eq, Default)]
 pub struct StreamRecord {
     pub output: u16,
     pub queue: u8,
@@ -44,8 +39,47 @@ pub struct StreamRecord {
     pub rate: u32,
 }
 
+// As a script has it: output/queue/rate.
+impl fmt::Display for StreamRecord {
+    fn fmt<W: fmt::Write>(&self, f: &mut fmt::Formatter<W>) -> fmt::Result {
+        write!(f, "{}/{}/{}", self.output, self.queue, self.rate)
+    }
+}
+
+// A text that is no stream record.
+#[derive(Clone, Copy, Debug, PartialEq, Eq)]
+pub struct NoStream;
+
+impl fmt::Display for NoStream {
+    fn fmt<W: fmt::Write>(&self, f: &mut fmt::Formatter<W>) -> fmt::Result {
+        write!(f, "no stream record")
+    }
+}
+
+impl Error for NoStream {}
+
+impl From<ParseIntError> for NoStream {
+    fn from(_: ParseIntError) -> NoStream {
+        NoStream
+    }
+}
+
+impl FromStr for StreamRecord {
+    type Err = NoStream;
+
+    fn from_str(s: &str) -> Result<StreamRecord, NoStream> {
+        let (output, rest) = s.split_once('/').ok_or(NoStream)?;
+        let (queue, rate) = rest.split_once('/').ok_or(NoStream)?;
+        Ok(StreamRecord {
+            output: output.parse()?,
+            queue: queue.parse()?,
+            rate: rate.parse()?,
+        })
+    }
+}
+
 // A node's record as the cells hold it: two bitmaps and the indexes of the two runs.
-#[derive(Clone, Copy)]
+#[derive(Clone, Copy, Debug, PartialEq, Eq)]
 pub struct NodeRow {
     pub data_bitmap: u32,
     pub child_bitmap: u32,
@@ -53,34 +87,28 @@ pub struct NodeRow {
     pub children_index: u32,
 }
 
+// A node with no value and no child.
+impl Default for NodeRow {
+    fn default() -> NodeRow {
+        NodeRow {
+            data_bitmap: 0,
+            child_bitmap: 0,
+            data_index: u32::MAX,
+            children_index: u32::MAX,
+        }
+    }
+}
+
 impl Entry for u32 {
     const LONGEST: u32 = 31;
 
     type Index = CellIndex;
 
-    ghost longest = { 31 };
+    ghost LONGEST = { 31 };
 
     ghost wide = { lit≤ tt };
 
     ghost narrow = { lit≤ tt };
-
-    ghost number = { λ i. i.number };
-
-    fn longest_run() -> u32 {
-        Self::LONGEST
-    }
-
-    fn size(n: u32) -> u32 {
-        data_size(n)
-    }
-
-    fn index_of(n: u32) -> CellIndex {
-        CellIndex { number: n }
-    }
-
-    fn number_of(i: CellIndex) -> u32 {
-        i.number
-    }
 }
 
 impl Entry for StreamRecord {
@@ -88,29 +116,11 @@ impl Entry for StreamRecord {
 
     type Index = CellIndex;
 
-    ghost longest = { 31 };
+    ghost LONGEST = { 31 };
 
     ghost wide = { lit≤ tt };
 
     ghost narrow = { lit≤ tt };
-
-    ghost number = { λ i. i.number };
-
-    fn longest_run() -> u32 {
-        Self::LONGEST
-    }
-
-    fn size(n: u32) -> u32 {
-        data_size(n)
-    }
-
-    fn index_of(n: u32) -> CellIndex {
-        CellIndex { number: n }
-    }
-
-    fn number_of(i: CellIndex) -> u32 {
-        i.number
-    }
 }
 
 impl Entry for NodeRow {
@@ -118,27 +128,9 @@ impl Entry for NodeRow {
 
     type Index = NodeIndex;
 
-    ghost longest = { 32 };
+    ghost LONGEST = { 32 };
 
     ghost wide = { lit≤ tt };
 
     ghost narrow = { lit≤ tt };
-
-    ghost number = { λ i. i.number };
-
-    fn longest_run() -> u32 {
-        Self::LONGEST
-    }
-
-    fn size(n: u32) -> u32 {
-        child_size(n)
-    }
-
-    fn index_of(n: u32) -> NodeIndex {
-        NodeIndex { number: n }
-    }
-
-    fn number_of(i: NodeIndex) -> u32 {
-        i.number
-    }
 }

@@ -3,7 +3,10 @@ ghost use Rattle.std.specs.Prelude.{◌≡◌};
 ghost use Rattle.runs.specs.Lists.{nth};
 ghost use Rattle.runs.specs.Refusals.{told, told_lent};
 
-#[derive(Clone, Copy)]
+use std::error::Error;
+use std::fmt;
+
+#[derive(Clone, Copy, Debug, PartialEq, Eq)]
 pub enum StoreFault {
     // 20: no run is live at the index
     NotLive,
@@ -41,7 +44,19 @@ impl StoreFault {
     }
 }
 
-#[derive(Clone, Copy)]
+// The number, and the layers crossed where they are counted.
+impl fmt::Display for StoreFault {
+    fn fmt<W: fmt::Write>(&self, f: &mut fmt::Formatter<W>) -> fmt::Result {
+        match self.layers() {
+            Some(layers) => write!(f, "{} {layers}", self.number()),
+            None => write!(f, "{}", self.number()),
+        }
+    }
+}
+
+impl Error for StoreFault {}
+
+#[derive(Clone, Copy, Debug, PartialEq, Eq)]
 pub enum LentFault {
     // 11: ledger and cells differ in length, or exceed 16,777,216
     Lengths,
@@ -56,3 +71,11 @@ impl LentFault {
         }
     }
 }
+
+impl fmt::Display for LentFault {
+    fn fmt<W: fmt::Write>(&self, f: &mut fmt::Formatter<W>) -> fmt::Result {
+        write!(f, "{}", self.number())
+    }
+}
+
+impl Error for LentFault {}

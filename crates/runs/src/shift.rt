@@ -1,5 +1,5 @@
 // Entries moved inside a lent slice, for every kind of entry. A range that does not lie in the slice is refused 21.
-ghost use Rattle.std.specs.Prelude.{◌≡◌, ◌+◌, ◌<◌, ◌≤◌, ◌&&◌, ◌||◌, ◌⊎◌, length, nat_le, nat_lt};
+ghost use Rattle.std.specs.Prelude.{◌≡◌, ◌+◌, ◌&&◌, ◌||◌, length, nat_le, nat_lt};
 ghost use Rattle.runs.specs.Lists.{nth};
 ghost use Rattle.runs.specs.Refusals.{told};
 ghost use Rattle.runs.specs.Calls.{Says};
@@ -13,7 +13,7 @@ pub fn shift_right<E: Copy>(cells: &mut [E], lo: usize, hi: usize) -> Result<(),
     ensures after { Moves result cells.old cells.new (λ xs ys. Right xs ys lo hi) }
 {
     if lo <= hi && hi < cells.len() {
-        move_right(cells, lo, hi);
+        cells.copy_within(lo..hi, lo + 1);
         Ok(())
     } else {
         Err(StoreFault::BadSlot)
@@ -26,7 +26,7 @@ pub fn shift_left<E: Copy>(cells: &mut [E], lo: usize, hi: usize) -> Result<(), 
     ensures after { Moves result cells.old cells.new (λ xs ys. Left xs ys lo hi) }
 {
     if lo < hi && hi <= cells.len() {
-        move_left(cells, lo, hi);
+        cells.copy_within(lo + 1..hi, lo);
         Ok(())
     } else {
         Err(StoreFault::BadSlot)
@@ -47,7 +47,7 @@ pub fn copy_run<E: Copy>(
         && ends_in(to, n, cells.len())
         && (from + n <= to || to + n <= from)
     {
-        copy_apart(cells, from, to, n);
+        cells.copy_within(from..from + n, to);
         Ok(())
     } else {
         Err(StoreFault::BadSlot)
@@ -58,11 +58,7 @@ pub fn copy_run<E: Copy>(
 pub fn entry_in<E: Copy>(cells: &[E], i: usize) -> Option<E>
     ensures { result ≡ nth cells.now i }
 {
-    if i < cells.len() {
-        Some(cells[i])
-    } else {
-        None
-    }
+    cells.get(i).copied()
 }
 
 // Whether n places from i on lie below the end.
@@ -70,36 +66,4 @@ fn ends_in(i: usize, n: usize, end: usize) -> bool
     ensures { result ≡ nat_le (i + n) end }
 {
     i <= end && n <= end - i
-}
-
-// It begins at the right end, so that no entry is overwritten before it has moved.
-fn move_right<E: Copy>(cells: &mut [E], lo: usize, hi: usize)
-    requires { (lo ≤ hi) × (hi < length cells.old) }
-    ensures { Right cells.old cells.new lo hi }
-{
-    let mut k = hi;
-    while k > lo {
-        cells[k] = cells[k - 1];
-        k -= 1;
-    }
-}
-
-fn move_left<E: Copy>(cells: &mut [E], lo: usize, hi: usize)
-    requires { (lo < hi) × (hi ≤ length cells.old) }
-    ensures { Left cells.old cells.new lo hi }
-{
-    for k in lo..hi - 1 {
-        cells[k] = cells[k + 1];
-    }
-}
-
-fn copy_apart<E: Copy>(cells: &mut [E], from: usize, to: usize, n: usize)
-    requires source { from + n ≤ length cells.old }
-    requires target { to + n ≤ length cells.old }
-    requires apart { (from + n ≤ to) ⊎ (to + n ≤ from) }
-    ensures { Copied cells.old cells.new from to n }
-{
-    for i in 0..n {
-        cells[to + i] = cells[from + i];
-    }
 }

@@ -8,26 +8,18 @@ use runs::entry::{Entry, NodeRow};
 use runs::store::RunStore;
 
 // Every call leads from a sound table to a sound one that means the plain tree's result.
-pub fn calls_stand<E: Entry, N: RunStore<Item = NodeRow>, V: RunStore<Item = E>>() -> u8
-    ensures { Calls N.RunStore.model V.RunStore.model N.RunStore.Valid V.RunStore.Valid }
-{
-    0
-}
+pub fn calls_stand<E: Entry, N: RunStore<Item = NodeRow>, V: RunStore<Item = E>>()
+    ensures { Calls N.Runs.model V.Runs.model N.Runs.Valid V.Runs.Valid }
+{}
 
-pub fn show_stands<V: Copy>() -> u8
+pub fn show_stands<V: Copy>()
     ensures { ShowLaw V }
-{
-    0
-}
+{}
 
-pub fn plain_stands<V: Copy>() -> u8
+pub fn plain_stands<V: Copy>()
     ensures { PlainLaw V }
-{
-    0
-}
+{}
 
-pub fn stop_stands<V: Copy>() -> u8
+pub fn stop_stands<V: Copy>()
     ensures { StopLaw V }
-{
-    0
-}
+{}

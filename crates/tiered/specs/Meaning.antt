@@ -4,15 +4,12 @@ use Rattle.tiered_model.specs.Tiered.{State}
 use Rattle.tiered_model.specs.Ledger.{state_of, Sound}
 use Rattle.tiered.specs.declared.Tiered.{Tiered}
 
-abbrev pub store_state : {E : Type 0} → Tiered E → State E
+abbrev pub store_state : {E Ix : Type 0} {g : _} {h : _} → Tiered E Ix g h → State E
 store_state t = state_of t.cells.now t.ledger.now t.claimed t.heads
-
-abbrev pub SoundOf : {E : Type 0} → ℕ → Tiered E → Type 0
-SoundOf longest t = Sound longest t.cells.now t.ledger.now t.claimed t.heads t.runs
 
 -- cells, ledger, claimed cells, heads of the free lists, number of runs
 abbrev pub Memory : Type 0 → Type 0
 Memory E = List E × List ℕ × ℕ × List ℕ × ℕ
 
-abbrev pub memory_of : {E : Type 0} → Tiered E → Memory E
+abbrev pub memory_of : {E Ix : Type 0} {g : _} {h : _} → Tiered E Ix g h → Memory E
 memory_of t = (t.cells.now, t.ledger.now, t.claimed, t.heads, t.runs)

@@ -12,7 +12,7 @@ ghost use Rattle.runs.specs.Runs.{grows, shrinks, no_entry, no_insert, no_remove
 ghost use Rattle.runs.specs.Calls.{Says, Tells, taken};
 ghost use Rattle.tiered_model.specs.Tiered.{fresh, has, change, tiered, group, held, ended, kept};
 ghost use Rattle.tiered_model.specs.Resizes.{Resized};
-ghost use Rattle.tiered.specs.Meaning.{store_state, SoundOf};
+ghost use Rattle.tiered_model.specs.Ledger.{Sound};
 
 use runs::entry::Entry;
 use runs::fault::StoreFault;
@@ -21,25 +21,22 @@ use runs::shift::{copy_run, entry_in, shift_left, shift_right};
 
 pub mod store;
 
-fn smaller(n: u32, m: u32) -> u32
-    ensures { result ≡ min n m }
-{
-    if n < m { n } else { m }
-}
-
 #[derive(Drop)]
-pub struct Tiered<'a, E> {
+pub struct Tiered<'a, E: Entry> {
     cells: &'a mut [E],
     ledger: &'a mut [u64],
     claimed: u32,
     heads: [u32; 33],
     runs: u32,
+    // the memory agrees with itself
+    ghost sound: { ∥ Sound E.LONGEST cells.now ledger.now claimed heads runs ∥₁ },
 }
 
 impl<'a, E: Entry> Tiered<'a, E> {
+    ghost use Rattle.tiered.specs.Meaning.{store_state};
+
     // A store with no run over cells and a ledger of one word a cell; with no cells where the two differ in length or are too long.
     pub fn new(cells: &'a mut [E], ledger: &'a mut [u64]) -> Tiered<'a, E>
-        ensures sound { SoundOf E.Entry.longest result }
         ensures after { store_state result ≡ fresh (taken (length cells.old) (length ledger.old)) }
     {
         if cells.len() != ledger.len() || cells.len() > INDEXES {
@@ -51,9 +48,7 @@ impl<'a, E: Entry> Tiered<'a, E> {
                 runs: 0,
             };
         }
-        for i in 0..ledger.len() {
-            ledger[i] = 0;
-        }
+        ledger.fill(0);
         Tiered {
             cells,
             ledger,
@@ -65,7 +60,6 @@ impl<'a, E: Entry> Tiered<'a, E> {
 
     // How many entries the run at an index has; 0 where none lives.
     fn run_length(&self, at: u32) -> u32
-        requires { SoundOf E.Entry.longest self.now }
         ensures { result ≡ length ((store_state self.now).live at) }
     {
         if (at as usize) < self.ledger.len() {
@@ -77,7 +71,6 @@ impl<'a, E: Entry> Tiered<'a, E> {
 
     // Whether a group of size y can be had.
     fn has_group(&self, y: u32) -> bool
-        requires sound { SoundOf E.Entry.longest self.now }
         requires small { y ≤ 32 }
         ensures { result ≡ has (store_state self.now) y }
     {
@@ -90,7 +83,6 @@ impl<'a, E: Entry> Tiered<'a, E> {
 
     // Whether a run can go from size z to size y.
     fn may_change(&self, z: u32, y: u32) -> Result<(), StoreFault>
-        requires sound { SoundOf E.Entry.longest self.now }
         requires small { y ≤ 32 }
         ensures { Says told result (change (store_state self.now) z y) }
     {
@@ -102,10 +94,9 @@ impl<'a, E: Entry> Tiered<'a, E> {
     }
 
     fn may_grow(&self, n: u32) -> Result<(), StoreFault>
-        requires { SoundOf E.Entry.longest self.now }
-        ensures { Says told result (grows (tiered E.Entry.longest) (store_state self.now) n) }
+        ensures { Says told result (grows (tiered E.Entry.LONGEST) (store_state self.now) n) }
     {
-        if n >= E::longest_run() {
+        if n >= E::LONGEST {
             return Err(StoreFault::AtLongest);
         }
         if n == 0 {
@@ -115,10 +106,9 @@ impl<'a, E: Entry> Tiered<'a, E> {
     }
 
     fn may_shrink(&self, n: u32) -> Result<(), StoreFault>
-        requires { SoundOf E.Entry.longest self.now }
-        ensures { Says told result (shrinks (tiered E.Entry.longest) (store_state self.now) n) }
+        ensures { Says told result (shrinks (tiered E.Entry.LONGEST) (store_state self.now) n) }
     {
-        if n == 0 || n > E::longest_run() {
+        if n == 0 || n > E::LONGEST {
             return Err(StoreFault::BadSlot);
         }
         if n == 1 {
@@ -127,64 +117,11 @@ impl<'a, E: Entry> Tiered<'a, E> {
         self.may_change(E::size(n), E::size(n - 1))
     }
 
-    // The length of the run at an index that has the slot.
-    fn may_read(&self, at: u32, slot: u32) -> Result<u32, StoreFault>
-        requires { SoundOf E.Entry.longest self.now }
-        ensures { Tells told result (no_entry (tiered E.Entry.longest) (store_state self.now) at slot) (λ n. n ≡ length ((store_state self.now).live at)) }
-    {
-        let n = self.run_length(at);
-        if n == 0 {
-            return Err(StoreFault::NotLive);
-        }
-        if slot >= n {
-            return Err(StoreFault::BadSlot);
-        }
-        Ok(n)
-    }
-
-    // The length of the run at an index that may get an entry before the slot.
-    fn may_insert(&self, at: u32, slot: u32) -> Result<u32, StoreFault>
-        requires { SoundOf E.Entry.longest self.now }
-        ensures { Tells told result (no_insert (tiered E.Entry.longest) (store_state self.now) at slot) (λ n. n ≡ length ((store_state self.now).live at)) }
-    {
-        let n = self.run_length(at);
-        if n == 0 {
-            return Err(StoreFault::NotLive);
-        }
-        if slot > n {
-            return Err(StoreFault::BadSlot);
-        }
-        match self.may_grow(n) {
-            Ok(_) => Ok(n),
-            Err(f) => Err(f),
-        }
-    }
-
-    // The length of the run at an index that may lose the entry at the slot.
-    fn may_remove(&self, at: u32, slot: u32) -> Result<u32, StoreFault>
-        requires { SoundOf E.Entry.longest self.now }
-        ensures { Tells told result (no_remove (tiered E.Entry.longest) (store_state self.now) at slot) (λ n. n ≡ length ((store_state self.now).live at)) }
-    {
-        let n = self.run_length(at);
-        if n == 0 {
-            return Err(StoreFault::NotLive);
-        }
-        if slot >= n {
-            return Err(StoreFault::BadSlot);
-        }
-        match self.may_shrink(n) {
-            Ok(_) => Ok(n),
-            Err(f) => Err(f),
-        }
-    }
-
     // A group of size y becomes a run of n entries, whatever its cells hold.
     fn take_group(&mut self, y: u32, n: u32) -> u32
-        requires sound { SoundOf E.Entry.longest self.old }
-        requires long { (1 ≤ n) × (n ≤ E.Entry.longest) }
-        requires sized { size E.Entry.longest n ≡ y }
+        requires long { (1 ≤ n) × (n ≤ E.Entry.LONGEST) }
+        requires sized { size E.Entry.LONGEST n ≡ y }
         requires has { has (store_state self.old) y ≡ true }
-        ensures sound { SoundOf E.Entry.longest self.new }
         ensures group { result ≡ group (store_state self.old) y }
         ensures after { store_state self.new ≡ held (store_state self.old) y (take n (drop result self.old.cells.now)) }
         ensures cells { self.new.cells.now ≡ self.old.cells.now }
@@ -206,10 +143,8 @@ impl<'a, E: Entry> Tiered<'a, E> {
 
     // The run at an index ends, and its group becomes the first free one of its size y.
     fn release(&mut self, at: u32, y: u32)
-        requires sound { SoundOf E.Entry.longest self.old }
         requires live { 1 ≤ length ((store_state self.old).live at) }
-        requires sized { size E.Entry.longest (length ((store_state self.old).live at)) ≡ y }
-        ensures sound { SoundOf E.Entry.longest self.new }
+        requires sized { size E.Entry.LONGEST (length ((store_state self.old).live at)) ≡ y }
         ensures after { store_state self.new ≡ ended (store_state self.old) y at }
         ensures cells { self.new.cells.now ≡ self.old.cells.now }
     {
@@ -221,11 +156,9 @@ impl<'a, E: Entry> Tiered<'a, E> {
 
     // The run at an index has m entries now, in its group.
     fn lengthen(&mut self, at: u32, m: u32)
-        requires sound { SoundOf E.Entry.longest self.old }
         requires live { 1 ≤ length ((store_state self.old).live at) }
-        requires long { (1 ≤ m) × (m ≤ E.Entry.longest) }
-        requires sized { size E.Entry.longest (length ((store_state self.old).live at)) ≡ size E.Entry.longest m }
-        ensures sound { SoundOf E.Entry.longest self.new }
+        requires long { (1 ≤ m) × (m ≤ E.Entry.LONGEST) }
+        requires sized { size E.Entry.LONGEST (length ((store_state self.old).live at)) ≡ size E.Entry.LONGEST m }
         ensures after { store_state self.new ≡ kept (store_state self.old) at (take m (drop at self.old.cells.now)) }
         ensures cells { self.new.cells.now ≡ self.old.cells.now }
     {
@@ -234,7 +167,6 @@ impl<'a, E: Entry> Tiered<'a, E> {
 
     // The entry at a slot of a run.
     fn read(&self, at: u32, slot: u32) -> E
-        requires sound { SoundOf E.Entry.longest self.now }
         requires slot { slot < length ((store_state self.now).live at) }
         ensures { nth ((store_state self.now).live at) slot ≡ Some result }
     {
@@ -246,9 +178,7 @@ impl<'a, E: Entry> Tiered<'a, E> {
 
     // Writes an entry at a slot of a run.
     fn replace(&mut self, at: u32, slot: u32, e: E)
-        requires sound { SoundOf E.Entry.longest self.old }
         requires slot { slot < length ((store_state self.old).live at) }
-        ensures sound { SoundOf E.Entry.longest self.new }
         ensures after { store_state self.new ≡ kept (store_state self.old) at (slice_set ((store_state self.old).live at) slot e) }
     {
         self.cells[(at + slot) as usize] = e;
@@ -256,10 +186,8 @@ impl<'a, E: Entry> Tiered<'a, E> {
 
     // Puts an entry before a slot of the first n entries of a run of n + 1.
     fn open_gap(&mut self, at: u32, n: u32, slot: u32, e: E)
-        requires sound { SoundOf E.Entry.longest self.old }
         requires long { length ((store_state self.old).live at) ≡ n + 1 }
         requires slot { slot ≤ n }
-        ensures sound { SoundOf E.Entry.longest self.new }
         ensures after { store_state self.new ≡ kept (store_state self.old) at (with_new (take n ((store_state self.old).live at)) slot e) }
     {
         let Ok(()) = shift_right(self.cells, (at + slot) as usize, (at + n) as usize) else {
@@ -270,10 +198,8 @@ impl<'a, E: Entry> Tiered<'a, E> {
 
     // Takes the entry at a slot out of a run of n; the last place stays as it was.
     fn close_gap(&mut self, at: u32, n: u32, slot: u32)
-        requires sound { SoundOf E.Entry.longest self.old }
         requires long { length ((store_state self.old).live at) ≡ n }
         requires slot { slot < n }
-        ensures sound { SoundOf E.Entry.longest self.new }
         ensures after { store_state self.new ≡ kept (store_state self.old) at (without ((store_state self.old).live at) slot ++ drop (n - 1) ((store_state self.old).live at)) }
     {
         let Ok(()) = shift_left(self.cells, (at + slot) as usize, (at + n) as usize) else {
@@ -283,12 +209,10 @@ impl<'a, E: Entry> Tiered<'a, E> {
 
     // Copies the first k entries of a run over those of another.
     fn copy_entries(&mut self, from: u32, to: u32, k: u32)
-        requires sound { SoundOf E.Entry.longest self.old }
         requires some { 1 ≤ k }
         requires from { k ≤ length ((store_state self.old).live from) }
         requires to { k ≤ length ((store_state self.old).live to) }
         requires apart { from ≢ to }
-        ensures sound { SoundOf E.Entry.longest self.new }
         ensures after { store_state self.new ≡ kept (store_state self.old) to (take k ((store_state self.old).live from) ++ drop k ((store_state self.old).live to)) }
     {
         let Ok(()) = copy_run(self.cells, from as usize, to as usize, k as usize) else {
@@ -298,28 +222,24 @@ impl<'a, E: Entry> Tiered<'a, E> {
 
     // A run of n entries takes a group of another size for m, and frees its own.
     fn move_run(&mut self, at: u32, n: u32, m: u32) -> u32
-        requires sound { SoundOf E.Entry.longest self.old }
         requires old { (1 ≤ n) × (length ((store_state self.old).live at) ≡ n) }
-        requires new { (1 ≤ m) × (m ≤ E.Entry.longest) }
-        requires other { size E.Entry.longest n ≢ size E.Entry.longest m }
-        requires has { has (store_state self.old) (size E.Entry.longest m) ≡ true }
-        ensures sound { SoundOf E.Entry.longest self.new }
-        ensures after { Resized E.Entry.longest (store_state self.old) at m result (store_state self.new) }
+        requires new { (1 ≤ m) × (m ≤ E.Entry.LONGEST) }
+        requires other { size E.Entry.LONGEST n ≢ size E.Entry.LONGEST m }
+        requires has { has (store_state self.old) (size E.Entry.LONGEST m) ≡ true }
+        ensures after { Resized E.Entry.LONGEST (store_state self.old) at m result (store_state self.new) }
     {
         let to = self.take_group(E::size(m), m);
-        self.copy_entries(at, to, smaller(n, m));
+        self.copy_entries(at, to, n.min(m));
         self.release(at, E::size(n));
         to
     }
 
     // A run of n entries goes to m, in its group if that has the size, else in another one.
     fn resize(&mut self, at: u32, n: u32, m: u32) -> u32
-        requires sound { SoundOf E.Entry.longest self.old }
         requires old { (1 ≤ n) × (length ((store_state self.old).live at) ≡ n) }
-        requires new { (1 ≤ m) × (m ≤ E.Entry.longest) }
-        requires may { change (store_state self.old) (size E.Entry.longest n) (size E.Entry.longest m) ≡ None }
-        ensures sound { SoundOf E.Entry.longest self.new }
-        ensures after { Resized E.Entry.longest (store_state self.old) at m result (store_state self.new) }
+        requires new { (1 ≤ m) × (m ≤ E.Entry.LONGEST) }
+        requires may { change (store_state self.old) (size E.Entry.LONGEST n) (size E.Entry.LONGEST m) ≡ None }
+        ensures after { Resized E.Entry.LONGEST (store_state self.old) at m result (store_state self.new) }
     {
         let old = E::size(n);
         let new = E::size(m);
@@ -332,11 +252,9 @@ impl<'a, E: Entry> Tiered<'a, E> {
 
     // A new run of one entry.
     fn open_run(&mut self, e: E) -> u32
-        requires sound { SoundOf E.Entry.longest self.old }
-        requires may { grows (tiered E.Entry.longest) (store_state self.old) 0 ≡ None }
-        ensures sound { SoundOf E.Entry.longest self.new }
-        ensures after { store_state self.new ≡ (tiered E.Entry.longest).opened (store_state self.old) e }
-        ensures place { result ≡ (tiered E.Entry.longest).opened_at (store_state self.old) e }
+        requires may { grows (tiered E.Entry.LONGEST) (store_state self.old) 0 ≡ None }
+        ensures after { store_state self.new ≡ (tiered E.Entry.LONGEST).opened (store_state self.old) e }
+        ensures place { result ≡ (tiered E.Entry.LONGEST).opened_at (store_state self.old) e }
     {
         let at = self.take_group(1, 1);
         self.replace(at, 0, e);
@@ -345,12 +263,10 @@ impl<'a, E: Entry> Tiered<'a, E> {
 
     // An entry before a slot of a run of n.
     fn put_in(&mut self, at: u32, n: u32, slot: u32, e: E) -> u32
-        requires sound { SoundOf E.Entry.longest self.old }
-        requires may { no_insert (tiered E.Entry.longest) (store_state self.old) at slot ≡ None }
+        requires may { no_insert (tiered E.Entry.LONGEST) (store_state self.old) at slot ≡ None }
         requires long { n ≡ length ((store_state self.old).live at) }
-        ensures sound { SoundOf E.Entry.longest self.new }
-        ensures after { store_state self.new ≡ (tiered E.Entry.longest).inserted (store_state self.old) at slot e }
-        ensures place { result ≡ (tiered E.Entry.longest).inserted_at (store_state self.old) at slot e }
+        ensures after { store_state self.new ≡ (tiered E.Entry.LONGEST).inserted (store_state self.old) at slot e }
+        ensures place { result ≡ (tiered E.Entry.LONGEST).inserted_at (store_state self.old) at slot e }
     {
         let to = self.resize(at, n, n + 1);
         self.open_gap(to, n, slot, e);
@@ -359,12 +275,10 @@ impl<'a, E: Entry> Tiered<'a, E> {
 
     // The entry at a slot out of a run of n.
     fn take_out(&mut self, at: u32, n: u32, slot: u32) -> u32
-        requires sound { SoundOf E.Entry.longest self.old }
-        requires may { no_remove (tiered E.Entry.longest) (store_state self.old) at slot ≡ None }
+        requires may { no_remove (tiered E.Entry.LONGEST) (store_state self.old) at slot ≡ None }
         requires long { n ≡ length ((store_state self.old).live at) }
-        ensures sound { SoundOf E.Entry.longest self.new }
-        ensures after { store_state self.new ≡ (tiered E.Entry.longest).removed (store_state self.old) at slot }
-        ensures place { result ≡ (tiered E.Entry.longest).removed_at (store_state self.old) at slot }
+        ensures after { store_state self.new ≡ (tiered E.Entry.LONGEST).removed (store_state self.old) at slot }
+        ensures place { result ≡ (tiered E.Entry.LONGEST).removed_at (store_state self.old) at slot }
     {
         if n == 1 {
             self.release(at, 1);

@@ -3,106 +3,91 @@ ghost use Rattle.std.specs.Prelude.{◌≡◌};
 ghost use Rattle.tiered_model.specs.Tiered.{State, tiered};
 ghost use Rattle.tiered_model.specs.Groups.{Valid, groups, cells_of};
 ghost use Rattle.tiered_model.proofs.Lawful.{lawful};
-ghost use Rattle.tiered.specs.Meaning.{store_state, SoundOf, Memory, memory_of};
+ghost use Rattle.tiered_model.proofs.Known.{known};
 
 use super::Tiered;
 use bitmap::Slot;
 use runs::entry::Entry;
 use runs::fault::StoreFault;
-use runs::store::RunStore;
+use runs::index::RunIndex;
+use runs::store::{RunStore, Runs};
 
 impl<'a, E: Entry> Tiered<'a, E> {
+    ghost use Rattle.tiered.specs.Meaning.{store_state};
+
     // The claimed cells: they are the cells of all groups, of live runs and freed.
     pub fn claimed(&self) -> u32
         ensures state { result ≡ (store_state self.now).claimed }
-        ensures sum { SoundOf E.Entry.longest self.now → result ≡ cells_of E.Entry.longest (groups E.Entry.longest (store_state self.now)) }
+        ensures sum { result ≡ cells_of E.Entry.LONGEST (groups E.Entry.LONGEST (store_state self.now)) }
     {
         self.claimed
     }
 }
 
-impl<'a, E: Entry> RunStore for Tiered<'a, E> {
+impl<'a, E: Entry> Runs for Tiered<'a, E> {
+    ghost use Rattle.tiered.specs.Meaning.{store_state, Memory, memory_of};
+
     type Item = E;
 
     ghost State = { State E };
 
-    ghost model = { tiered E.Entry.longest };
+    ghost model = { tiered E.Entry.LONGEST };
 
     ghost state = { λ t. store_state t };
 
-    ghost Valid = { Valid E.Entry.longest };
-
-    ghost longest = { E.Entry.longest };
-
-    ghost lawful = { lawful E.Entry.longest E.Entry.wide E.Entry.narrow };
+    ghost Valid = { Valid E.Entry.LONGEST };
 
     ghost Memory = { Memory E };
 
     ghost memory = { λ t. memory_of t };
 
-    ghost sound = { λ t. SoundOf E.Entry.longest t };
-
-    ghost valid = { λ t h. h.valid };
-
-    fn count(&mut self) -> u32 {
+    fn count(&self) -> u32 {
         self.runs
     }
 
-    fn length(&mut self, at: E::Index) -> u32 {
-        self.run_length(E::number_of(at))
+    fn length(&self, at: E::Index) -> u32 {
+        self.run_length(at.number())
     }
 
-    fn entry(&mut self, at: E::Index, slot: Slot) -> Result<E, StoreFault> {
-        let i = E::number_of(at);
-        match self.may_read(i, slot.number) {
-            Ok(_) => Ok(self.read(i, slot.number)),
-            Err(f) => Err(f),
-        }
-    }
-
-    fn grow(&mut self, n: u32) -> Result<(), StoreFault> {
+    fn grow(&self, n: u32) -> Result<(), StoreFault> {
         self.may_grow(n)
     }
 
-    fn shrink(&mut self, n: u32) -> Result<(), StoreFault> {
+    fn shrink(&self, n: u32) -> Result<(), StoreFault> {
         self.may_shrink(n)
     }
 
+    ghost lawful = { lawful E.Entry.LONGEST E.Entry.wide E.Entry.narrow };
+
+    ghost valid = { λ t. (known E.Entry.LONGEST _ _ _ _ _ t.sound).valid };
+}
+
+impl<'a, E: Entry> RunStore for Tiered<'a, E> {
+    fn entry(&self, at: E::Index, slot: Slot) -> Result<E, StoreFault> {
+        self.may_read(at, slot)?;
+        Ok(self.read(at.number(), slot.number))
+    }
+
     fn exchange(&mut self, at: E::Index, slot: Slot, e: E) -> Result<E, StoreFault> {
-        let i = E::number_of(at);
-        match self.may_read(i, slot.number) {
-            Ok(_) => {
-                let old = self.read(i, slot.number);
-                self.replace(i, slot.number, e);
-                Ok(old)
-            }
-            Err(f) => Err(f),
-        }
+        self.may_read(at, slot)?;
+        let old = self.read(at.number(), slot.number);
+        self.replace(at.number(), slot.number, e);
+        Ok(old)
     }
 
     fn open(&mut self, e: E) -> Result<E::Index, StoreFault> {
-        match self.may_grow(0) {
-            Ok(_) => Ok(E::index_of(self.open_run(e))),
-            Err(f) => Err(f),
-        }
+        self.may_grow(0)?;
+        Ok(E::Index::at(self.open_run(e)))
     }
 
     fn insert(&mut self, at: E::Index, slot: Slot, e: E) -> Result<E::Index, StoreFault> {
-        let i = E::number_of(at);
-        match self.may_insert(i, slot.number) {
-            Ok(n) => Ok(E::index_of(self.put_in(i, n, slot.number, e))),
-            Err(f) => Err(f),
-        }
+        let n = self.may_insert(at, slot)?;
+        Ok(E::Index::at(self.put_in(at.number(), n, slot.number, e)))
     }
 
     fn remove(&mut self, at: E::Index, slot: Slot) -> Result<(E, E::Index), StoreFault> {
-        let i = E::number_of(at);
-        match self.may_remove(i, slot.number) {
-            Ok(n) => {
-                let old = self.read(i, slot.number);
-                Ok((old, E::index_of(self.take_out(i, n, slot.number))))
-            }
-            Err(f) => Err(f),
-        }
+        let n = self.may_remove(at, slot)?;
+        let old = self.read(at.number(), slot.number);
+        Ok((old, E::Index::at(self.take_out(at.number(), n, slot.number))))
     }
 }

@@ -1,3 +1,4 @@
+pub mod Known
 pub mod Weights
 pub mod Taking
 pub mod Asking

@@ -3,32 +3,27 @@
 
 ghost use Rattle.tiered_model.specs.Laws.{FreshValid, TieredLawful, ClaimsStand, AnswersStand, PlacedStands};
 
-pub fn fresh_stands<V: Copy>() -> u8
+pub fn fresh_stands<V: Copy>()
     ensures { FreshValid V }
 {
-    0
 }
 
-pub fn lawful_stands<V: Copy>() -> u8
+pub fn lawful_stands<V: Copy>()
     ensures { TieredLawful V }
 {
-    0
 }
 
-pub fn claims_stand<V: Copy>() -> u8
+pub fn claims_stand<V: Copy>()
     ensures { ClaimsStand V }
 {
-    0
 }
 
-pub fn answers_stand<V: Copy>() -> u8
+pub fn answers_stand<V: Copy>()
     ensures { AnswersStand V }
 {
-    0
 }
 
-pub fn placed_stands<V: Copy>() -> u8
+pub fn placed_stands<V: Copy>()
     ensures { PlacedStands V }
 {
-    0
 }

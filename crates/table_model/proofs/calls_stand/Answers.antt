@@ -2,4 +2,4 @@ use Rattle.table_model.proofs.Lawfully.{calls}
 use Rattle.table_model.proofs.calls_stand.Goals as goal
 
 pub returns : goal.returns
-returns g c = calls g.N.RunStore.model g.V.RunStore.model g.N.RunStore.longest g.V.RunStore.longest g.N.RunStore.Valid g.V.RunStore.Valid g.N.RunStore.lawful g.V.RunStore.lawful
+returns g c = calls g.N.Runs.model g.V.Runs.model _ _ g.N.Runs.Valid g.V.Runs.Valid g.met.N.Runs.lawful g.met.V.Runs.lawful
