@@ -1,8 +1,9 @@
 -- Where a range lies in a slice, no shift and no copy is refused.
-use Rattle.std.proofs.Common.{◌≡◌, ℕ, ◌+◌, ◌<◌, ◌≤◌, true, ◌&&◌, ◌||◌, ltb, leb, ◌⊎◌, Some, None, ap, inl, inr, arith}
+use Rattle.std.proofs.Common.{◌≡◌, ℕ, ◌+◌, ◌<◌, ◌≤◌, true, ◌&&◌, ◌||◌, ltb, leb, List, ◌⊎◌, Some, None, Result, Ok, Err, sym, ap, subst, inl, inr, arith}
 use Rattle.std.proofs.lemmas.Bool.{and_from, or_left, or_right, le-leb, lt-ltb}
 use Rattle.runs.specs.Refusals.{Refusal, Grant}
-use Rattle.runs.specs.Shift.{in_slice}
+use Rattle.runs.specs.Shift.{in_slice, Moves}
+use Rattle.runs.specs.declared.fault.StoreFault.{StoreFault}
 
 -- a grant is not both
 pub never : (g : Grant) (f : Refusal) → g ≡ None → g ≡ Some f → ⊥
@@ -21,3 +22,8 @@ apart i j k (inr h) = or_right (leb (i + k) j) (leb (j + k) i) (le-leb (j + k) i
 pub copy_fits : (from to k n : ℕ) → from + k ≤ n → to + k ≤ n → (from + k ≤ to) ⊎ (to + k ≤ from)
     → in_slice (leb (from + k) n && (leb (to + k) n && (leb (from + k) to || leb (to + k) from))) ≡ None
 copy_fits from to k n a b o = ap in_slice (and_from (leb (from + k) n) _ (le-leb (from + k) n a) (and_from (leb (to + k) n) _ (le-leb (to + k) n b) (apart from to k o)))
+
+-- whatever a shift or a copy answers, what holds of the slice before, and of all that a move may leave, holds of the slice after
+pub either_way : {X : Type 0} (Q : List X → Type 0) (r : Result (Unit {0}) StoreFault) (xs ys : List X) (P : List X → List X → Type 0) → Moves r xs ys P → (P xs ys → Q ys) → Q xs → Q ys
+either_way Q (Ok _) xs ys P h f q = f h
+either_way Q (Err e) xs ys P h f q = subst Q (sym h) q

@@ -5,7 +5,7 @@
 #![tactic(auto)]
 
 ghost use Rattle.std.specs.Prelude.{◌≡◌, ◌+◌, ◌-◌, ◌<◌, ◌≤◌, min, true, ◌++◌, length, take, drop, Some, None, ◌≢◌, slice_set};
-ghost use Rattle.runs.specs.Lists.{nth, with_new, without};
+ghost use Rattle.runs.specs.Lists.{indexes, nth, with_new, without};
 ghost use Rattle.runs.specs.Refusals.{told};
 ghost use Rattle.runs.specs.Sizes.{size};
 ghost use Rattle.runs.specs.Runs.{grows, shrinks, no_entry, no_insert, no_remove};
@@ -16,7 +16,7 @@ ghost use Rattle.tiered_model.specs.Ledger.{Sound};
 
 use runs::entry::Entry;
 use runs::fault::StoreFault;
-use runs::lent::INDEXES;
+use runs::lent::lent;
 use runs::shift::{copy_run, entry_in, shift_left, shift_right};
 
 pub mod store;
@@ -39,15 +39,17 @@ impl<'a, E: Entry> Tiered<'a, E> {
     pub fn new(cells: &'a mut [E], ledger: &'a mut [u64]) -> Tiered<'a, E>
         ensures after { store_state result ≡ fresh (taken (length cells.old) (length ledger.old)) }
     {
-        if cells.len() != ledger.len() || cells.len() > INDEXES {
-            return Tiered {
-                cells: &mut cells[..0],
-                ledger: &mut ledger[..0],
-                claimed: 0,
-                heads: [0; 33],
-                runs: 0,
-            };
+        match lent(cells, ledger) {
+            Ok(()) => Tiered::over(cells, ledger),
+            Err(_) => Tiered::over(&mut cells[..0], &mut ledger[..0]),
         }
+    }
+
+    fn over(cells: &'a mut [E], ledger: &'a mut [u64]) -> Tiered<'a, E>
+        requires same { length ledger.old ≡ length cells.old }
+        requires low { length cells.old ≤ indexes }
+        ensures { store_state result ≡ fresh (length cells.old) }
+    {
         ledger.fill(0);
         Tiered {
             cells,
@@ -62,11 +64,9 @@ impl<'a, E: Entry> Tiered<'a, E> {
     fn run_length(&self, at: u32) -> u32
         ensures { result ≡ length ((store_state self.now).live at) }
     {
-        if (at as usize) < self.ledger.len() {
-            (self.ledger[at as usize] % 64) as u32
-        } else {
-            0
-        }
+        self.ledger
+            .get(at as usize)
+            .map_or(0, |word| (*word % 64) as u32)
     }
 
     // Whether a group of size y can be had.
@@ -74,11 +74,7 @@ impl<'a, E: Entry> Tiered<'a, E> {
         requires small { y ≤ 32 }
         ensures { result ≡ has (store_state self.now) y }
     {
-        if self.heads[y as usize] > 0 {
-            true
-        } else {
-            (self.claimed + y) as usize <= self.cells.len()
-        }
+        self.heads[y as usize] > 0 || (self.claimed + y) as usize <= self.cells.len()
     }
 
     // Whether a run can go from size z to size y.
@@ -135,8 +131,9 @@ impl<'a, E: Entry> Tiered<'a, E> {
             return at;
         }
         let at = head - 1;
-        self.heads[y as usize] = (self.ledger[at as usize] / 64) as u32;
+        let before = (self.ledger[at as usize] / 64) as u32;
         self.ledger[at as usize] = n as u64;
+        self.heads[y as usize] = before;
         self.runs += 1;
         at
     }
@@ -170,10 +167,7 @@ impl<'a, E: Entry> Tiered<'a, E> {
         requires slot { slot < length ((store_state self.now).live at) }
         ensures { nth ((store_state self.now).live at) slot ≡ Some result }
     {
-        let Some(e) = entry_in(self.cells, (at + slot) as usize) else {
-            unreachable()
-        };
-        e
+        self.cells[(at + slot) as usize]
     }
 
     // Writes an entry at a slot of a run.
@@ -190,9 +184,7 @@ impl<'a, E: Entry> Tiered<'a, E> {
         requires slot { slot ≤ n }
         ensures after { store_state self.new ≡ kept (store_state self.old) at (with_new (take n ((store_state self.old).live at)) slot e) }
     {
-        let Ok(()) = shift_right(self.cells, (at + slot) as usize, (at + n) as usize) else {
-            unreachable()
-        };
+        shift_right(self.cells, (at + slot) as usize, (at + n) as usize).unwrap();
         self.cells[(at + slot) as usize] = e;
     }
 
@@ -202,9 +194,7 @@ impl<'a, E: Entry> Tiered<'a, E> {
         requires slot { slot < n }
         ensures after { store_state self.new ≡ kept (store_state self.old) at (without ((store_state self.old).live at) slot ++ drop (n - 1) ((store_state self.old).live at)) }
     {
-        let Ok(()) = shift_left(self.cells, (at + slot) as usize, (at + n) as usize) else {
-            unreachable()
-        };
+        shift_left(self.cells, (at + slot) as usize, (at + n) as usize).unwrap();
     }
 
     // Copies the first k entries of a run over those of another.
@@ -215,9 +205,7 @@ impl<'a, E: Entry> Tiered<'a, E> {
         requires apart { from ≢ to }
         ensures after { store_state self.new ≡ kept (store_state self.old) to (take k ((store_state self.old).live from) ++ drop k ((store_state self.old).live to)) }
     {
-        let Ok(()) = copy_run(self.cells, from as usize, to as usize, k as usize) else {
-            unreachable()
-        };
+        copy_run(self.cells, from as usize, to as usize, k as usize).unwrap();
     }
 
     // A run of n entries takes a group of another size for m, and frees its own.

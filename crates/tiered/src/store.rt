@@ -88,6 +88,9 @@ impl<'a, E: Entry> RunStore for Tiered<'a, E> {
     fn remove(&mut self, at: E::Index, slot: Slot) -> Result<(E, E::Index), StoreFault> {
         let n = self.may_remove(at, slot)?;
         let old = self.read(at.number(), slot.number);
-        Ok((old, E::Index::at(self.take_out(at.number(), n, slot.number))))
+        Ok((
+            old,
+            E::Index::at(self.take_out(at.number(), n, slot.number)),
+        ))
     }
 }

@@ -115,6 +115,13 @@ module _ {E : Type 0} (longest : ℕ) (la : 31 ≤ longest) (lb : longest ≤ 32
         (ap (λ (q : ℕ). take q (drop i (set D (i + k) e))) nm ∙ gap_run C D i k m e l (omega arith) ld rt
         ∙ ap (λ (xs : List E). with_new xs k e) (sym (ap (λ (xs : List E). take m xs) (run_is C i n h) ∙ take-take m n (drop i C) (omega arith))))
 
+    -- the entries are moved, and the new one is not written yet
+    pub gap_moved : (D : List E) (k m : ℕ) → n ≡ m + 1 → k ≤ m → length D ≡ length C → Right C D (i + k) (i + m) → Sound longest D L c H r
+    gap_moved D k m nm l ld rt =
+        let w = in_cells i (omega arith) in
+        (changed D (take n (drop i D)) (omega arith) ld
+        (λ j d o. ⊎_elim (λ (x : j < i). rt.0 j d (omega arith)) (λ (x : i + n ≤ j). rt.2 j d (omega arith)) o) refl).1
+
     pub gap_closed : (D : List E) (k : ℕ) → k < n → length D ≡ length C → Left C D (i + k) (i + n)
         → (state_of D L c H ≡ kept (state_of C L c H) i (without (run_at C L i) k ++ drop (n - 1) (run_at C L i))) × Sound longest D L c H r
     gap_closed D k l ld lt =

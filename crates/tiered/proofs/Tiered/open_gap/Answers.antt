@@ -1,29 +1,42 @@
-use Rattle.runs.proofs.Shifts.{right_fits, never}
+use Rattle.runs.specs.Shift.{Right}
+use Rattle.tiered_model.specs.Ledger.{Sound}
+use Rattle.tiered_model.proofs.Known.{known}
+use Rattle.runs.proofs.Shifts.{either_way, right_fits, never}
 use Rattle.std.proofs.Common.{◌+◌, ◌<◌, length, refl, arith, rules}
 use Rattle.tiered.proofs.Tiered.open_gap.Goals as goal
-use Rattle.tiered_model.proofs.Cells.{slot_cells, gap_opened}
+use Rattle.tiered_model.proofs.Cells.{slot_cells, gap_opened, gap_moved}
 
 pub overflow_add-at : goal.overflow_add-at
-overflow_add-at g c = let b = slot_cells _ g.E.Entry.wide g.E.Entry.narrow _ _ _ _ _ c.requires.sound c.args.at c.args.slot (omega (arith, c.requires.long)) in omega arith
+overflow_add-at g c = let b = slot_cells _ g.E.Entry.wide g.E.Entry.narrow _ _ _ _ _ (known g.E.Entry.LONGEST _ _ _ _ _ c.args.self.now.sound) c.args.at c.args.slot (omega (arith, c.requires.long)) in omega arith
 
 pub overflow_add-at-2 : goal.overflow_add-at-2
-overflow_add-at-2 g c = let b = slot_cells _ g.E.Entry.wide g.E.Entry.narrow _ _ _ _ _ c.requires.sound c.args.at c.args.slot (omega (arith, c.requires.long)) in omega arith
+overflow_add-at-2 g c = let b = slot_cells _ g.E.Entry.wide g.E.Entry.narrow _ _ _ _ _ (known g.E.Entry.LONGEST _ _ _ _ _ c.args.self.now.sound) c.args.at c.args.slot (omega (arith, c.requires.long)) in omega arith
 
 pub unreachable-requires : goal.unreachable-requires
 unreachable-requires g c =
-    let b = slot_cells _ g.E.Entry.wide g.E.Entry.narrow _ _ _ _ _ c.requires.sound c.args.at c.args.slot (omega (arith, c.requires.long)) in
+    let b = slot_cells _ g.E.Entry.wide g.E.Entry.narrow _ _ _ _ _ (known g.E.Entry.LONGEST _ _ _ _ _ c.args.self.now.sound) c.args.at c.args.slot (omega (arith, c.requires.long)) in
     never _ _ (right_fits (c.args.at + c.args.slot) (c.args.at + c.args.n) (length c.args.self.now.cells.now) (omega arith) (omega arith)) c.in_default.ensures.answer
 
 pub overflow_add-e : goal.overflow_add-e
-overflow_add-e g c = let b = slot_cells _ g.E.Entry.wide g.E.Entry.narrow _ _ _ _ _ c.requires.sound c.args.at c.args.slot (omega (arith, c.requires.long)) in omega arith
+overflow_add-e g c = let b = slot_cells _ g.E.Entry.wide g.E.Entry.narrow _ _ _ _ _ (known g.E.Entry.LONGEST _ _ _ _ _ c.args.self.now.sound) c.args.at c.args.slot (omega (arith, c.requires.long)) in omega arith
 
 pub offset_bounds-self-at : goal.offset_bounds-self-at
-offset_bounds-self-at g c = let b = slot_cells _ g.E.Entry.wide g.E.Entry.narrow _ _ _ _ _ c.requires.sound c.args.at c.args.slot (omega (arith, c.requires.long)) in let h : c.args.at + c.args.slot < length c.args.self.now.cells.now = omega arith in search rules
+offset_bounds-self-at g c = let b = slot_cells _ g.E.Entry.wide g.E.Entry.narrow _ _ _ _ _ (known g.E.Entry.LONGEST _ _ _ _ _ c.args.self.now.sound) c.args.at c.args.slot (omega (arith, c.requires.long)) in let h : c.args.at + c.args.slot < length c.args.self.now.cells.now = omega arith in search rules
 
 pub bounds-self-at : goal.bounds-self-at
-bounds-self-at g c = let b = slot_cells _ g.E.Entry.wide g.E.Entry.narrow _ _ _ _ _ c.requires.sound c.args.at c.args.slot (omega (arith, c.requires.long)) in omega arith
+bounds-self-at g c = let b = slot_cells _ g.E.Entry.wide g.E.Entry.narrow _ _ _ _ _ (known g.E.Entry.LONGEST _ _ _ _ _ c.args.self.now.sound) c.args.at c.args.slot (omega (arith, c.requires.long)) in omega arith
 
 pub returns : goal.returns
 returns g c =
-    let a = gap_opened _ g.E.Entry.wide g.E.Entry.narrow _ _ _ _ _ c.requires.sound c.args.at (c.args.n + 1) c.requires.long c.shift_right.new.cells c.args.slot c.args.n c.args.e refl c.requires.slot (omega arith) c.in-Ok.ensures.after in
-    record { sound = a.1; after = a.0 }
+    let a = gap_opened _ g.E.Entry.wide g.E.Entry.narrow _ _ _ _ _ (known g.E.Entry.LONGEST _ _ _ _ _ c.args.self.now.sound) c.args.at (c.args.n + 1) c.requires.long c.shift_right.new.cells c.args.slot c.args.n c.args.e refl c.requires.slot (omega arith) c.in-Ok.ensures.after in
+    record { after = a.0 }
+
+pub invariant_of-self : goal.invariant_of-self
+invariant_of-self g c =
+    let s = known g.E.Entry.LONGEST _ _ _ _ _ c.args.self.now.sound in
+    record { sound = ∣ either_way (λ D. Sound g.E.Entry.LONGEST D c.args.self.now.ledger.now c.args.self.now.claimed c.args.self.now.heads c.args.self.now.runs) c.shift_right.result _ _ (λ xs ys. Right xs ys (c.args.at + c.args.slot) (c.args.at + c.args.n)) c.shift_right.ensures.after (λ moved. gap_moved _ g.E.Entry.wide g.E.Entry.narrow _ _ _ _ _ s c.args.at (c.args.n + 1) c.requires.long c.shift_right.new.cells c.args.slot c.args.n refl c.requires.slot (omega arith) moved) s ∣₁ }
+
+pub invariant_of-self-2 : goal.invariant_of-self-2
+invariant_of-self-2 g c =
+    let a = gap_opened _ g.E.Entry.wide g.E.Entry.narrow _ _ _ _ _ (known g.E.Entry.LONGEST _ _ _ _ _ c.args.self.now.sound) c.args.at (c.args.n + 1) c.requires.long c.shift_right.new.cells c.args.slot c.args.n c.args.e refl c.requires.slot (omega arith) c.in-Ok.ensures.after in
+    record { sound = ∣ a.1 ∣₁ }

@@ -1,3 +1,4 @@
+use Rattle.tiered_model.proofs.Known.{known}
 use Rattle.std.proofs.Common.{◌≡◌, take, drop, sym, ap, ◌∙◌, arith}
 use Rattle.tiered.proofs.Tiered.resize.Goals as goal
 use Rattle.runs.specs.Sizes.{size}
@@ -7,23 +8,21 @@ use Rattle.tiered_model.proofs.Moves.{resized_here, change_had}
 
 pub lengthen-requires : goal.lengthen-requires
 lengthen-requires g c = record {
-  sound = c.requires.sound;
   live = omega (arith, c.requires.old.0, c.requires.old.1);
   long = c.requires.new;
-  sized = ap (size g.E.Entry.longest) c.requires.old.1 ∙ sym c.size-old.ensures ∙ c.if-old-new.true ∙ c.size-new.ensures;
+  sized = ap (size g.E.Entry.LONGEST) c.requires.old.1 ∙ sym c.size-old.ensures ∙ c.if-old-new.true ∙ c.size-new.ensures;
 }
 
 pub returns-then-old-new : goal.returns-then-old-new
 returns-then-old-new g c =
     let e = sym c.size-old.ensures ∙ c.if-old-new.true ∙ c.size-new.ensures in
     let ys = take c.args.m (drop c.args.at c.args.self.now.cells.now) in
-    let f = window_fits g.E.Entry.longest g.E.Entry.wide g.E.Entry.narrow _ _ _ _ _ c.requires.sound c.args.at c.args.n c.args.m c.requires.old.1 c.requires.old.0 c.requires.new.0 c.requires.new.1 e in
+    let f = window_fits g.E.Entry.LONGEST g.E.Entry.wide g.E.Entry.narrow _ _ _ _ _ (known g.E.Entry.LONGEST _ _ _ _ _ c.args.self.now.sound) c.args.at c.args.n c.args.m c.requires.old.1 c.requires.old.0 c.requires.new.0 c.requires.new.1 e in
     record {
-      sound = c.lengthen.ensures.sound;
-      after = resized_here g.E.Entry.longest g.E.Entry.wide g.E.Entry.narrow (store_state c.args.self.now) c.requires.sound.valid c.args.at c.args.n c.requires.old.1 c.requires.old.0 c.args.m c.requires.new.0 c.requires.new.1 (store_state c.lengthen.new.self) ys e f.0 c.lengthen.ensures.after f.1;
+      after = resized_here g.E.Entry.LONGEST g.E.Entry.wide g.E.Entry.narrow (store_state c.args.self.now) (known g.E.Entry.LONGEST _ _ _ _ _ c.args.self.now.sound).valid c.args.at c.args.n c.requires.old.1 c.requires.old.0 c.args.m c.requires.new.0 c.requires.new.1 (store_state c.lengthen.new.self) ys e f.0 c.lengthen.ensures.after f.1;
     }
 
 pub move_run-requires : goal.move_run-requires
 move_run-requires g c =
-    let ne : size g.E.Entry.longest c.args.n ≡ size g.E.Entry.longest c.args.m → ⊥ = λ q. c.if-old-new.false (c.size-old.ensures ∙ q ∙ sym c.size-new.ensures) in
-    record { sound = c.requires.sound; old = c.requires.old; new = c.requires.new; other = ne; has = change_had (store_state c.args.self.now) _ _ c.requires.may ne }
+    let ne : size g.E.Entry.LONGEST c.args.n ≡ size g.E.Entry.LONGEST c.args.m → ⊥ = λ q. c.if-old-new.false (c.size-old.ensures ∙ q ∙ sym c.size-new.ensures) in
+    record { old = c.requires.old; new = c.requires.new; other = ne; has = change_had (store_state c.args.self.now) _ _ c.requires.may ne }
