@@ -1,7 +1,9 @@
 -- Where a range lies in a slice, no shift and no copy is refused.
-use Rattle.std.proofs.Common.{◌≡◌, ℕ, ◌+◌, ◌<◌, ◌≤◌, true, ◌&&◌, ◌||◌, ltb, leb, List, ◌⊎◌, Some, None, Result, Ok, Err, sym, ap, subst, inl, inr, arith}
+use Rattle.std.proofs.Common.{◌≡◌, ℕ, ◌+◌, ◌<◌, ◌≤◌, true, ◌&&◌, ◌||◌, ltb, leb, cond, List, ◌⊎◌, Some, None, Result, Ok, Err, refl, sym, ap, subst, inl, inr, arith}
 use Rattle.std.proofs.lemmas.Bool.{and_from, or_left, or_right, le-leb, lt-ltb}
+use Rattle.std.specs.Result.{IsOk}
 use Rattle.runs.specs.Refusals.{Refusal, Grant}
+use Rattle.runs.specs.Calls.{Says}
 use Rattle.runs.specs.Shift.{in_slice, Moves}
 use Rattle.runs.specs.declared.fault.StoreFault.{StoreFault}
 
@@ -27,3 +29,12 @@ copy_fits from to k n a b o = ap in_slice (and_from (leb (from + k) n) _ (le-leb
 pub either_way : {X : Type 0} (Q : List X → Type 0) (r : Result (Unit {0}) StoreFault) (xs ys : List X) (P : List X → List X → Type 0) → Moves r xs ys P → (P xs ys → Q ys) → Q xs → Q ys
 either_way Q (Ok _) xs ys P h f q = f h
 either_way Q (Err e) xs ys P h f q = subst Q (sym h) q
+
+-- what is granted is no refusal
+pub is_granted : {X F : Type 0} (tell : F → Refusal) (r : Result X F) (g : Grant) → Says tell r g → g ≡ None → IsOk r
+is_granted tell (Ok x) g s n = refl
+is_granted tell (Err f) g s n = absurd (never g (tell f) n s)
+
+pub has_moved : {X : Type 0} (r : Result (Unit {0}) StoreFault) (xs ys : List X) (P : List X → List X → Type 0) → IsOk r → Moves r xs ys P → P xs ys
+has_moved (Ok _) xs ys P h m = m
+has_moved (Err e) xs ys P h m = absurd (let z : ◌≡◌ {A = ℕ} 0 1 = ap (λ b. cond b 1 0) h in omega arith)

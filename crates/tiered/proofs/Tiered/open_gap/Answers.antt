@@ -1,7 +1,7 @@
 use Rattle.runs.specs.Shift.{Right}
 use Rattle.tiered_model.specs.Ledger.{Sound}
 use Rattle.tiered_model.proofs.Known.{known}
-use Rattle.runs.proofs.Shifts.{either_way, right_fits, never}
+use Rattle.runs.proofs.Shifts.{either_way, right_fits, is_granted, has_moved}
 use Rattle.std.proofs.Common.{◌+◌, ◌<◌, length, refl, arith, rules}
 use Rattle.tiered.proofs.Tiered.open_gap.Goals as goal
 use Rattle.tiered_model.proofs.Cells.{slot_cells, gap_opened, gap_moved}
@@ -12,10 +12,10 @@ overflow_add-at g c = let b = slot_cells _ g.E.Entry.wide g.E.Entry.narrow _ _ _
 pub overflow_add-at-2 : goal.overflow_add-at-2
 overflow_add-at-2 g c = let b = slot_cells _ g.E.Entry.wide g.E.Entry.narrow _ _ _ _ _ (known g.E.Entry.LONGEST _ _ _ _ _ c.args.self.now.sound) c.args.at c.args.slot (omega (arith, c.requires.long)) in omega arith
 
-pub unreachable-requires : goal.unreachable-requires
-unreachable-requires g c =
+pub unwrap-requires : goal.unwrap-requires
+unwrap-requires g c =
     let b = slot_cells _ g.E.Entry.wide g.E.Entry.narrow _ _ _ _ _ (known g.E.Entry.LONGEST _ _ _ _ _ c.args.self.now.sound) c.args.at c.args.slot (omega (arith, c.requires.long)) in
-    never _ _ (right_fits (c.args.at + c.args.slot) (c.args.at + c.args.n) (length c.args.self.now.cells.now) (omega arith) (omega arith)) c.in_default.ensures.answer
+    is_granted _ _ _ c.shift_right.ensures.answer (right_fits (c.args.at + c.args.slot) (c.args.at + c.args.n) (length c.args.self.now.cells.now) (omega arith) (omega arith))
 
 pub overflow_add-e : goal.overflow_add-e
 overflow_add-e g c = let b = slot_cells _ g.E.Entry.wide g.E.Entry.narrow _ _ _ _ _ (known g.E.Entry.LONGEST _ _ _ _ _ c.args.self.now.sound) c.args.at c.args.slot (omega (arith, c.requires.long)) in omega arith
@@ -28,7 +28,8 @@ bounds-self-at g c = let b = slot_cells _ g.E.Entry.wide g.E.Entry.narrow _ _ _ 
 
 pub returns : goal.returns
 returns g c =
-    let a = gap_opened _ g.E.Entry.wide g.E.Entry.narrow _ _ _ _ _ (known g.E.Entry.LONGEST _ _ _ _ _ c.args.self.now.sound) c.args.at (c.args.n + 1) c.requires.long c.shift_right.new.cells c.args.slot c.args.n c.args.e refl c.requires.slot (omega arith) c.in-Ok.ensures.after in
+    let b = slot_cells _ g.E.Entry.wide g.E.Entry.narrow _ _ _ _ _ (known g.E.Entry.LONGEST _ _ _ _ _ c.args.self.now.sound) c.args.at c.args.slot (omega (arith, c.requires.long)) in
+    let a = gap_opened _ g.E.Entry.wide g.E.Entry.narrow _ _ _ _ _ (known g.E.Entry.LONGEST _ _ _ _ _ c.args.self.now.sound) c.args.at (c.args.n + 1) c.requires.long c.shift_right.new.cells c.args.slot c.args.n c.args.e refl c.requires.slot (omega arith) (has_moved c.shift_right.result _ _ (λ xs ys. Right xs ys (c.args.at + c.args.slot) (c.args.at + c.args.n)) (is_granted _ _ _ c.shift_right.ensures.answer (right_fits (c.args.at + c.args.slot) (c.args.at + c.args.n) (length c.args.self.now.cells.now) (omega arith) (omega arith))) c.shift_right.ensures.after) in
     record { after = a.0 }
 
 pub invariant_of-self : goal.invariant_of-self
@@ -38,5 +39,6 @@ invariant_of-self g c =
 
 pub invariant_of-self-2 : goal.invariant_of-self-2
 invariant_of-self-2 g c =
-    let a = gap_opened _ g.E.Entry.wide g.E.Entry.narrow _ _ _ _ _ (known g.E.Entry.LONGEST _ _ _ _ _ c.args.self.now.sound) c.args.at (c.args.n + 1) c.requires.long c.shift_right.new.cells c.args.slot c.args.n c.args.e refl c.requires.slot (omega arith) c.in-Ok.ensures.after in
+    let b = slot_cells _ g.E.Entry.wide g.E.Entry.narrow _ _ _ _ _ (known g.E.Entry.LONGEST _ _ _ _ _ c.args.self.now.sound) c.args.at c.args.slot (omega (arith, c.requires.long)) in
+    let a = gap_opened _ g.E.Entry.wide g.E.Entry.narrow _ _ _ _ _ (known g.E.Entry.LONGEST _ _ _ _ _ c.args.self.now.sound) c.args.at (c.args.n + 1) c.requires.long c.shift_right.new.cells c.args.slot c.args.n c.args.e refl c.requires.slot (omega arith) (has_moved c.shift_right.result _ _ (λ xs ys. Right xs ys (c.args.at + c.args.slot) (c.args.at + c.args.n)) (is_granted _ _ _ c.shift_right.ensures.answer (right_fits (c.args.at + c.args.slot) (c.args.at + c.args.n) (length c.args.self.now.cells.now) (omega arith) (omega arith))) c.shift_right.ensures.after) in
     record { sound = ∣ a.1 ∣₁ }
