@@ -6,11 +6,12 @@ mod play;
 mod stores;
 mod value;
 
-use line::Kinds;
+use line::{Line, Start};
 use runs::entry::StreamRecord;
 use std::io::{BufRead, BufReader};
 use std::{env, io};
 use stores::play_history;
+use value::Value;
 
 const HELP: &str = "console [--stream] < script
 
@@ -26,29 +27,34 @@ or qLIMIT:STORE (a quota over a store, at most two). VALUE is a number, or outpu
 --stream. Empty lines and lines that begin with # are passed over.";
 
 // All lines of the script.
-fn read_lines(rt: &HostRuntime) -> io::Result<Vec<String>> {
+fn read_lines(rt: &HostRuntime) -> io::Result<Vec<Line>> {
     let mut lines = Vec::new(rt.alloc());
-    for line in BufReader::new(rt.alloc(), rt.stdin())?.lines(rt.alloc()) {
-        lines.push(line?)?;
+    for text in BufReader::new(rt.alloc(), rt.stdin())?.lines(rt.alloc()) {
+        lines.push(Line {
+            number: lines.len().saturating_add(1),
+            text: text?,
+        })?;
     }
     Ok(lines)
 }
 
+fn is_start(line: &Line) -> bool {
+    line.text.parse::<Start>().is_ok()
+}
+
 // A script is a list of histories: each goes to the next `start`, or to the end.
-fn play_script(rt: &HostRuntime, lines: &Vec<String>, stream: bool) -> io::Result<()> {
-    let mut at = 0;
-    let mut kinds = Kinds::ROOMY;
-    for _ in 0..lines.len() {
-        if at >= lines.len() {
-            break;
-        }
-        let next = if stream {
-            play_history::<StreamRecord>(rt, lines, at, kinds)?
-        } else {
-            play_history::<u32>(rt, lines, at, kinds)?
+fn play_script<E: Value>(rt: &HostRuntime, lines: &[Line]) -> io::Result<()> {
+    for history in lines.chunk_by(|_, next| !is_start(next)) {
+        let Some((first, rest)) = history.split_first() else {
+            return Ok(());
         };
-        at = next.0;
-        kinds = next.1;
+        match first.text.parse::<Start>() {
+            Ok(start) => {
+                println!(rt; "ok")?;
+                play_history::<E>(rt, start, rest)?;
+            }
+            Err(_) => play_history::<E>(rt, Start::ROOMY, history)?,
+        }
     }
     Ok(())
 }
@@ -56,12 +62,15 @@ fn play_script(rt: &HostRuntime, lines: &Vec<String>, stream: bool) -> io::Resul
 fn main(rt: HostRuntime) -> io::Result<()> {
     let mut stream = false;
     for word in env::args(&rt)?.skip(1) {
-        if word.as_str() == "--stream" {
-            stream = true;
-        } else {
+        if word.as_str() != "--stream" {
             return println!(rt; "{HELP}");
         }
+        stream = true;
     }
     let lines = read_lines(&rt)?;
-    play_script(&rt, &lines, stream)
+    if stream {
+        play_script::<StreamRecord>(&rt, &lines)
+    } else {
+        play_script::<u32>(&rt, &lines)
+    }
 }

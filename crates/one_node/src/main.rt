@@ -4,124 +4,116 @@
 // every size up and back. Then two stores that are too small refuse, and the lines show that nothing has changed.
 #![tactic(auto)]
 
-ghost use Rattle.tiered.specs.Meaning.{SoundOf};
-
 use bitmap::{Bit, compute_slot, is_set};
 use mappings::{Node, clear_mapping, set_mapping};
 use runs::entry::StreamRecord;
-use runs::fault::StoreFault;
 use runs::index::CellIndex;
 use runs::store::RunStore;
 use std::io;
 use tiered::Tiered;
 
-const NO_STREAM: StreamRecord = StreamRecord {
-    output: 0,
-    queue: 0,
-    rate: 0,
-};
+// A store of records, played on and printed.
+struct Show<'a, 'b> {
+    rt: &'a HostRuntime,
+    store: Tiered<'b, StreamRecord>,
+}
 
-const NO_MAPPING: Node = Node {
-    bitmap: 0,
-    index: CellIndex::EMPTY,
-};
-
-// A bit with its record, if it has one.
-fn print_mapping(
-    rt: &HostRuntime,
-    store: &mut Tiered<'_, StreamRecord>,
-    node: Node,
-    b: u32,
-) -> io::Result<()>
-    requires { SoundOf 31 store.old }
-    ensures { SoundOf 31 store.new }
-{
-    let bit = Bit { number: b };
-    if !is_set(node.bitmap, bit) {
-        return Ok(());
+fn no_mapping() -> Node {
+    Node {
+        bitmap: 0,
+        index: CellIndex::empty(),
     }
-    match store.entry(node.index, compute_slot(node.bitmap, bit)) {
-        Ok(s) => {
-            let StreamRecord {
-                output,
-                queue,
-                rate,
-            } = s;
-            print!(rt; " {b}={output}/{queue}/{rate}")
+}
+
+impl<'a, 'b> Show<'a, 'b> {
+    // A bit with its record, if it has one.
+    fn print_mapping(&self, node: Node, b: u32) -> io::Result<()> {
+        let bit = Bit { number: b };
+        if !is_set(node.bitmap, bit) {
+            return Ok(());
         }
-        Err(f) => print_refusal(rt, f),
+        match self
+            .store
+            .entry(node.index, compute_slot(node.bitmap, bit))
+        {
+            Ok(stream) => print!(self.rt; " {b}={stream}"),
+            Err(fault) => println!(self.rt; "  refused {fault}"),
+        }
     }
-}
 
-// The run's index, the claimed cells, and the records in the order of their bits.
-fn print_node(rt: &HostRuntime, store: &mut Tiered<'_, StreamRecord>, node: Node) -> io::Result<()>
-    requires { SoundOf 31 store.old }
-    ensures { SoundOf 31 store.new }
-{
-    if node.index.is_empty() {
-        print!(rt; "no run, claimed {}:", store.claimed())?;
-    } else {
-        let index = node.index.number;
-        print!(rt; "index {index}, claimed {}:", store.claimed())?;
+    // The run's index, the claimed cells, and the records in the order of their bits.
+    fn print_node(&self, node: Node) -> io::Result<()> {
+        let claimed = self.store.claimed();
+        if node.index.is_empty() {
+            print!(self.rt; "no run, claimed {claimed}:")?;
+        } else {
+            print!(self.rt; "index {}, claimed {claimed}:", node.index)?;
+        }
+        // the number of a bit, and no place in a list
+        for b in 0..32 {
+            self.print_mapping(node, b)?;
+        }
+        println!(self.rt; "")
     }
-    for b in 0..32 {
-        print_mapping(rt, store, node, b)?;
-    }
-    println!(rt; "")
-}
 
-fn print_refusal(rt: &HostRuntime, fault: StoreFault) -> io::Result<()> {
-    let number = fault.number();
-    match fault.layers() {
-        Some(layers) => println!(rt; "  refused {number} {layers}"),
-        None => println!(rt; "  refused {number}"),
+    // A mapping arrives at a bit: what was asked, and the node as it is then.
+    fn arrive(&mut self, node: Node, bit: u32, stream: StreamRecord) -> io::Result<Node> {
+        println!(self.rt; "set {bit} {stream}")?;
+        let mut left = node;
+        match set_mapping(&mut self.store, node, Bit { number: bit }, stream) {
+            Ok(n) => left = n,
+            Err(fault) => println!(self.rt; "  refused {fault}")?,
+        }
+        self.print_node(left)?;
+        Ok(left)
     }
-}
 
-// A mapping arrives at a bit: what was asked, and the node as it is then.
-fn arrive(
-    rt: &HostRuntime,
-    store: &mut Tiered<'_, StreamRecord>,
-    node: Node,
-    bit: u32,
-    stream: StreamRecord,
-) -> io::Result<Node>
-    requires { SoundOf 31 store.old }
-    ensures { SoundOf 31 store.new }
-{
-    let StreamRecord {
-        output,
-        queue,
-        rate,
-    } = stream;
-    println!(rt; "set {bit} {output}/{queue}/{rate}")?;
-    let mut left = node;
-    match set_mapping(store, node, Bit { number: bit }, stream) {
-        Ok(n) => left = n,
-        Err(f) => print_refusal(rt, f)?,
+    // A mapping is taken away.
+    fn leave(&mut self, node: Node, bit: u32) -> io::Result<Node> {
+        println!(self.rt; "clear {bit}")?;
+        let mut left = node;
+        match clear_mapping(&mut self.store, node, Bit { number: bit }) {
+            Ok((_, n)) => left = n,
+            Err(fault) => println!(self.rt; "  refused {fault}")?,
+        }
+        self.print_node(left)?;
+        Ok(left)
     }
-    print_node(rt, store, left)?;
-    Ok(left)
-}
 
-// A mapping is taken away.
-fn leave(
-    rt: &HostRuntime,
-    store: &mut Tiered<'_, StreamRecord>,
-    node: Node,
-    bit: u32,
-) -> io::Result<Node>
-    requires { SoundOf 31 store.old }
-    ensures { SoundOf 31 store.new }
-{
-    println!(rt; "clear {bit}")?;
-    let mut left = node;
-    match clear_mapping(store, node, Bit { number: bit }) {
-        Ok((_, n)) => left = n,
-        Err(f) => print_refusal(rt, f)?,
+    // All 31 bits get a mapping, every third is exchanged, and all are taken away in another order.
+    fn play(&mut self) -> io::Result<()> {
+        let mut node = no_mapping();
+        for bit in (0..31u32).map(|k| k * 12 % 31) {
+            node = self.arrive(node, bit, stream_at(bit, 0))?;
+        }
+        for bit in (0..30u32).step_by(3) {
+            node = self.arrive(node, bit, stream_at(bit, 1))?;
+        }
+        for bit in (0..31u32).map(|k| k * 7 % 31) {
+            node = self.leave(node, bit)?;
+        }
+        Ok(())
     }
-    print_node(rt, store, left)?;
-    Ok(left)
+
+    // Fourteen cells are one short of what five mappings take.
+    fn play_short(&mut self) -> io::Result<()> {
+        let mut node = no_mapping();
+        for (k, bit) in (0..5u32).zip((0..25u32).step_by(5)) {
+            node = self.arrive(node, bit, stream_at(k, 2))?;
+        }
+        Ok(())
+    }
+
+    // With three cells, a node with two mappings beside one with one can't lose either: there is no group of one for what would be left.
+    fn play_beside(&mut self) -> io::Result<()> {
+        let node = self.arrive(no_mapping(), 4, stream_at(4, 3))?;
+        let node = self.arrive(node, 9, stream_at(9, 3))?;
+        let beside = self.arrive(no_mapping(), 20, stream_at(20, 3))?;
+        let node = self.leave(node, 4)?;
+        let _ = self.leave(beside, 20)?;
+        let _ = self.leave(node, 4)?;
+        Ok(())
+    }
 }
 
 // The stream of a bit at a turn of the show.
@@ -133,66 +125,20 @@ fn stream_at(bit: u32, turn: u32) -> StreamRecord {
     }
 }
 
-// All 31 bits get a mapping, every third is exchanged, and all are taken away in another order.
-fn play(rt: &HostRuntime, store: &mut Tiered<'_, StreamRecord>) -> io::Result<()>
-    requires { SoundOf 31 store.old }
-    ensures { SoundOf 31 store.new }
-{
-    let mut node = NO_MAPPING;
-    for k in 0..31u32 {
-        let bit = k * 12 % 31;
-        node = arrive(rt, store, node, bit, stream_at(bit, 0))?;
-    }
-    for k in 0..10u32 {
-        let bit = k * 3;
-        node = arrive(rt, store, node, bit, stream_at(bit, 1))?;
-    }
-    for k in 0..31u32 {
-        node = leave(rt, store, node, k * 7 % 31)?;
-    }
-    Ok(())
-}
-
-// Fourteen cells are one short of what five mappings take.
-fn play_short(rt: &HostRuntime, store: &mut Tiered<'_, StreamRecord>) -> io::Result<()>
-    requires { SoundOf 31 store.old }
-    ensures { SoundOf 31 store.new }
-{
-    let mut node = NO_MAPPING;
-    for k in 0..5u32 {
-        node = arrive(rt, store, node, k * 5, stream_at(k, 2))?;
-    }
-    Ok(())
-}
-
-// With three cells, a node with two mappings beside one with one can't lose either: there is no group of one for what would be left.
-fn play_beside(rt: &HostRuntime, store: &mut Tiered<'_, StreamRecord>) -> io::Result<()>
-    requires { SoundOf 31 store.old }
-    ensures { SoundOf 31 store.new }
-{
-    let node = arrive(rt, store, NO_MAPPING, 4, stream_at(4, 3))?;
-    let node = arrive(rt, store, node, 9, stream_at(9, 3))?;
-    let beside = arrive(rt, store, NO_MAPPING, 20, stream_at(20, 3))?;
-    let node = leave(rt, store, node, 4)?;
-    let _ = leave(rt, store, beside, 20)?;
-    let _ = leave(rt, store, node, 4)?;
-    Ok(())
-}
-
 fn main(rt: HostRuntime) -> io::Result<()> {
     println!(rt; "# 86 cells: every size once")?;
-    let mut cells = [NO_STREAM; 86];
+    let mut cells = [StreamRecord::default(); 86];
     let mut ledger = [0u64; 86];
-    let mut store = Tiered::new(&mut cells, &mut ledger);
-    play(&rt, &mut store)?;
+    let store = Tiered::new(&mut cells, &mut ledger);
+    Show { rt: &rt, store }.play()?;
     println!(rt; "# 14 cells")?;
-    let mut cells = [NO_STREAM; 14];
+    let mut cells = [StreamRecord::default(); 14];
     let mut ledger = [0u64; 14];
-    let mut store = Tiered::new(&mut cells, &mut ledger);
-    play_short(&rt, &mut store)?;
+    let store = Tiered::new(&mut cells, &mut ledger);
+    Show { rt: &rt, store }.play_short()?;
     println!(rt; "# 3 cells, two nodes")?;
-    let mut cells = [NO_STREAM; 3];
+    let mut cells = [StreamRecord::default(); 3];
     let mut ledger = [0u64; 3];
-    let mut store = Tiered::new(&mut cells, &mut ledger);
-    play_beside(&rt, &mut store)
+    let store = Tiered::new(&mut cells, &mut ledger);
+    Show { rt: &rt, store }.play_beside()
 }

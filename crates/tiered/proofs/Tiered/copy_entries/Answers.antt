@@ -1,7 +1,7 @@
 use Rattle.runs.specs.Shift.{Copied}
 use Rattle.tiered_model.specs.Ledger.{Sound}
 use Rattle.tiered_model.proofs.Known.{known}
-use Rattle.std.proofs.Common.{◌+◌, length, refl, arith}
+use Rattle.std.proofs.Common.{length, refl, arith}
 use Rattle.runs.proofs.Shifts.{either_way, copy_fits, is_granted, has_moved}
 use Rattle.tiered.proofs.Tiered.copy_entries.Goals as goal
 use Rattle.tiered_model.proofs.Cells.{in_cells, copy_apart, run_copied}
