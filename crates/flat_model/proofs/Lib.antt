@@ -8,3 +8,4 @@ pub mod Words
 pub mod Cells
 pub mod Steps
 pub mod Starts
+pub mod Known
