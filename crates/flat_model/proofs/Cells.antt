@@ -3,7 +3,7 @@ use Rattle.std.proofs.Common.{◌≡◌, ℕ, ◌+◌, ◌-◌, ◌<◌, ◌≤�
 use mathlib.Core.Path.{fun_ext}
 use Rattle.std.proofs.lemmas.Bool.{cases_eq}
 use Rattle.std.proofs.lemmas.List.{same_lists}
-use Rattle.runs.specs.Lists.{indexes, at, nth, with_new, without}
+use Rattle.runs.specs.Lists.{indexes, at, with_new, without}
 use Rattle.runs.specs.Runs.{one_run, count}
 use Rattle.runs.specs.Shift.{Right, Left}
 use Rattle.runs.proofs.Counts.{put_same, put_other, tally_put}
@@ -12,7 +12,7 @@ use Rattle.flat_model.specs.Places.{of_run}
 use Rattle.flat_model.specs.Ledger.{length_w, run_at, state_of, Sound}
 use Rattle.flat_model.proofs.Taking.{kept_valid}
 use Rattle.flat_model.proofs.Placed.{placed}
-use Rattle.flat_model.proofs.Windows.{window_at, nth_window, set_window, gap_opened, gap_rest, gap_closed}
+use Rattle.flat_model.proofs.Windows.{window_at, set_window, gap_opened, gap_rest, gap_closed}
 use Rattle.flat_model.proofs.Words.{state_is, one_of, in_cells, in_ledger, run_resized}
 
 -- ---- states changed twice at one place
@@ -97,28 +97,38 @@ module _ {E : Type 0} (longest : ℕ) (la : 31 ≤ longest) (lb : longest ≤ 32
   pub room : (i + longest ≤ length C) × (n ≤ longest)
   room = (in_cells longest la lb C L c h r s i (omega arith), omega (arith, s.valid.short i))
 
-  -- what is read at a slot's cell is the entry
-  pub entry_read : (k : ℕ) → k < n → nth C (i + k) ≡ nth (run_at C L i) k
-  entry_read k lk = sym (ap (λ (xs : List E). nth xs k) (run_is C) ∙ nth_window C i n k lk)
-
   pub replaced : (k : ℕ) (x : E) → k < n → (state_of (set C (i + k) x) L c h ≡ kept (state_of C L c h) i (set (run_at C L i) k x)) × Sound longest (set C (i + k) x) L c h r
   replaced k x lk =
       let w = room in
       let a = rewritten (set C (i + k) x) (length-set C (i + k) x) (λ j d o. get_or-set_other C (i + k) j x d (λ q. ⊎_elim (λ (y : j < i). omega arith) (λ (y : i + longest ≤ j). omega (arith, w.1)) o)) in
       (a.0 ∙ ap (λ (zs : List E). kept (state_of C L c h) i zs) (run_is (set C (i + k) x) ∙ set_window C i k n x (omega (arith, w.0, w.1)) lk ∙ ap (λ (xs : List E). set xs k x) (sym (run_is C))), a.1)
 
-  pub put_in : (D : List E) (k : ℕ) (x : E) → k ≤ n → n < longest → length D ≡ length C → Right C D (i + k) (i + n)
-      → (state_of (set D (i + k) x) (set L i (n + 1)) c h ≡ kept (state_of C L c h) i (with_new (run_at C L i) k x)) × Sound longest (set D (i + k) x) (set L i (n + 1)) c h r
-  put_in D k x lk ln ld rt =
-      let w = room in
-      regrown (set D (i + k) x) (with_new (run_at C L i) k x) (n + 1) (length-set D (i + k) x ∙ ld)
-      (λ j d o. gap_rest C D i k n x lk rt j d (⊎_elim (λ (y : j < i). inl y) (λ (y : i + longest ≤ j). inr (omega arith)) o)) (omega arith) (omega arith)
-      (gap_opened C D i k n x lk (omega (arith, w.0)) ld rt ∙ ap (λ (xs : List E). with_new xs k x) (sym (run_is C)))
+  -- a gap opened at slot k, and an entry written there
+  module _ (D : List E) (k : ℕ) (lk : k ≤ n) (ln : n < longest) (ld : length D ≡ length C) (rt : Right C D (i + k) (i + n)) where
+    pub gap_sound : Sound longest D L c h r
+    gap_sound = (rewritten D ld (λ j d o. ⊎_elim (λ (y : j < i). rt.0 j d (omega arith)) (λ (y : i + longest ≤ j). rt.2 j d (omega arith)) o)).1
 
-  pub taken_out : (D : List E) (k : ℕ) → k < n → 1 < n → length D ≡ length C → Left C D (i + k) (i + n)
-      → (state_of D (set L i (n - 1)) c h ≡ kept (state_of C L c h) i (without (run_at C L i) k)) × Sound longest D (set L i (n - 1)) c h r
-  taken_out D k lk ln ld lt =
-      let w = room in
-      regrown D (without (run_at C L i) k) (n - 1) ld
-      (λ j d o. ⊎_elim (λ (y : j < i). lt.0 j d (omega arith)) (λ (y : i + longest ≤ j). lt.2 j d (omega (arith, w.1))) o) (omega arith) (omega (arith, w.1))
-      (gap_closed C D i k n (omega (arith, w.0, w.1)) ld lk lt ∙ ap (λ (xs : List E). without xs k) (sym (run_is C)))
+    module _ (x : E) where
+      outside : (j : ℕ) (d : E) → (j < i) ⊎ (i + longest ≤ j) → get_or (set D (i + k) x) j d ≡ get_or C j d
+      outside j d o = gap_rest C D i k n x lk rt j d (⊎_elim (λ (y : j < i). inl y) (λ (y : i + longest ≤ j). inr (omega arith)) o)
+
+      pub written_sound : Sound longest (set D (i + k) x) L c h r
+      written_sound = (rewritten (set D (i + k) x) (length-set D (i + k) x ∙ ld) outside).1
+
+      pub put_in : (state_of (set D (i + k) x) (set L i (n + 1)) c h ≡ kept (state_of C L c h) i (with_new (run_at C L i) k x)) × Sound longest (set D (i + k) x) (set L i (n + 1)) c h r
+      put_in =
+          regrown (set D (i + k) x) (with_new (run_at C L i) k x) (n + 1) (length-set D (i + k) x ∙ ld) outside (omega arith) (omega arith)
+          (gap_opened C D i k n x lk (omega (arith, room.0)) ld rt ∙ ap (λ (xs : List E). with_new xs k x) (sym (run_is C)))
+
+  -- the gap at slot k closed
+  module _ (D : List E) (k : ℕ) (lk : k < n) (ld : length D ≡ length C) (lt : Left C D (i + k) (i + n)) where
+    beyond : (j : ℕ) (d : E) → (j < i) ⊎ (i + longest ≤ j) → get_or D j d ≡ get_or C j d
+    beyond j d o = ⊎_elim (λ (y : j < i). lt.0 j d (omega arith)) (λ (y : i + longest ≤ j). lt.2 j d (omega (arith, room.1))) o
+
+    pub closed_sound : Sound longest D L c h r
+    closed_sound = (rewritten D ld beyond).1
+
+    pub taken_out : 1 < n → (state_of D (set L i (n - 1)) c h ≡ kept (state_of C L c h) i (without (run_at C L i) k)) × Sound longest D (set L i (n - 1)) c h r
+    taken_out more =
+        regrown D (without (run_at C L i) k) (n - 1) ld beyond (omega arith) (omega (arith, room.1))
+        (gap_closed C D i k n (omega (arith, room.0, room.1)) ld lk lt ∙ ap (λ (xs : List E). without xs k) (sym (run_is C)))

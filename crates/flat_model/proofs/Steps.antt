@@ -1,8 +1,8 @@
 -- The steps of an accepted call, as the code takes them.
-use Rattle.std.proofs.Common.{◌≡◌, ℕ, ◌+◌, ◌-◌, ◌<◌, ◌≤◌, Bool, true, ◌&&◌, ltb, leb, List, [], length, take, drop, set, Some, None, Ok, Err, Result, sym, refl, ap, ◌∙◌, arith}
+use Rattle.std.proofs.Common.{◌≡◌, ℕ, ◌+◌, ◌-◌, ◌<◌, ◌≤◌, Bool, true, ◌&&◌, ltb, leb, List, [], length, take, drop, set, Some, None, Ok, Err, Result, sym, ap, arith}
 use Rattle.std.proofs.lemmas.Bool.{cond-true, and_from, le-leb, lt-ltb}
 use Rattle.runs.specs.declared.fault.StoreFault.{StoreFault}
-use Rattle.runs.specs.Lists.{indexes, nth, without}
+use Rattle.runs.specs.Lists.{indexes, without}
 use Rattle.runs.specs.Refusals.{refusal, told}
 use Rattle.runs.specs.Runs.{grows, no_insert, no_remove}
 use Rattle.runs.specs.Calls.{Says}
@@ -11,8 +11,8 @@ use Rattle.flat_model.specs.Flat.{State, group, held, kept, flat}
 use Rattle.flat_model.specs.Ledger.{run_at, state_of, Sound}
 use Rattle.flat_model.proofs.Asking.{can_open, insert_told, remove_told}
 use Rattle.flat_model.proofs.Placed.{placed}
-use Rattle.flat_model.proofs.Windows.{window_length, nth_there}
-use Rattle.flat_model.proofs.Cells.{room, entry_read, put_in, taken_out, held_live, opened_by}
+use Rattle.flat_model.proofs.Windows.{window_length}
+use Rattle.flat_model.proofs.Cells.{room, gap_sound, written_sound, put_in, closed_sound, taken_out, held_live, opened_by}
 
 -- a shift whose range lies in the slice is made
 shifted : {X : Type 0} (r : Result (Unit {0}) StoreFault) (ok : Bool) (xs ys : List X) (P : List X → List X → Type 0) → ok ≡ true → Says told r (in_slice ok) → Moves r xs ys P → P xs ys
@@ -32,18 +32,6 @@ module _ {E : Type 0} (longest : ℕ) (la : 31 ≤ longest) (lb : longest ≤ 32
     pub open_done : (u : State E) (e : E) → u ≡ kept t g (set (t.live g) 0 e) → u ≡ (flat longest).opened (state_of C L c h) e
     open_done u e eu = opened_by longest (state_of C L c h) t u g (take 1 (drop g C)) e eg (new_fits may g eg) et eu
 
-  -- ---- reading
-
-  module _ (i k : ℕ) (lk : k < length (run_at C L i)) where
-    pub slot_room : (i + k < length C) × (length C ≤ indexes)
-    slot_room = let w = room longest la lb C L c h r s i (length (run_at C L i)) refl (omega arith) in (omega (arith, w.0, w.1), s.valid.within)
-
-    pub read_is : nth C (i + k) ≡ nth (run_at C L i) k
-    read_is = entry_read longest la lb C L c h r s i (length (run_at C L i)) refl (omega arith) k lk
-
-    pub read_there : nth C (i + k) ≡ None → ⊥
-    read_there e = nth_there (run_at C L i) k lk (sym read_is ∙ e)
-
   module _ (i n k : ℕ) (long : n ≡ length (run_at C L i)) where
     -- ---- inserting
 
@@ -53,14 +41,25 @@ module _ {E : Type 0} (longest : ℕ) (la : 31 ≤ longest) (lb : longest ≤ 32
         let w = room longest la lb C L c h r s i n (sym long) (omega (arith, t.0)) in
         (omega (arith, t.1), omega (arith, t.2, w.0), s.valid.within)
 
-    pub insert_done : no_insert (flat longest) (state_of C L c h) i k ≡ None → (D : List E) (x : E) (q : Result (Unit {0}) StoreFault) → length D ≡ length C
-        → Says told q (in_slice (leb (i + k) (i + n) && ltb (i + n) (length C))) → Moves q C D (λ xs ys. Right xs ys (i + k) (i + n))
-        → (state_of (set D (i + k) x) (set L i (n + 1)) c h ≡ (flat longest).inserted (state_of C L c h) i k x) × Sound longest (set D (i + k) x) (set L i (n + 1)) c h r
-    insert_done may D x q ld answer after =
-        let t = insert_told longest la (state_of C L c h) i k may in
-        let w = insert_room may in
-        let rt = shifted q _ C D (λ xs ys. Right xs ys (i + k) (i + n)) (and_from _ _ (le-leb (i + k) (i + n) (omega (arith, w.0))) (lt-ltb (i + n) (length C) w.1)) answer after in
-        put_in longest la lb C L c h r s i n (sym long) (omega (arith, t.0)) D k x w.0 (omega (arith, t.2)) ld rt
+    module _ (may : no_insert (flat longest) (state_of C L c h) i k ≡ None) (D : List E) (q : Result (Unit {0}) StoreFault) (ld : length D ≡ length C)
+        (answer : Says told q (in_slice (leb (i + k) (i + n) && ltb (i + n) (length C)))) (after : Moves q C D (λ xs ys. Right xs ys (i + k) (i + n))) where
+      opened_gap : Right C D (i + k) (i + n)
+      opened_gap = let w = insert_room may in shifted q _ C D (λ xs ys. Right xs ys (i + k) (i + n)) (and_from _ _ (le-leb (i + k) (i + n) (omega (arith, w.0))) (lt-ltb (i + n) (length C) w.1)) answer after
+
+      some : 1 ≤ n
+      some = omega (arith, (insert_told longest la (state_of C L c h) i k may).0)
+
+      less : n < longest
+      less = omega (arith, (insert_told longest la (state_of C L c h) i k may).2)
+
+      pub insert_gap : Sound longest D L c h r
+      insert_gap = gap_sound longest la lb C L c h r s i n (sym long) some D k (insert_room may).0 less ld opened_gap
+
+      pub insert_written : (x : E) → Sound longest (set D (i + k) x) L c h r
+      insert_written x = written_sound longest la lb C L c h r s i n (sym long) some D k (insert_room may).0 less ld opened_gap x
+
+      pub insert_done : (x : E) → (state_of (set D (i + k) x) (set L i (n + 1)) c h ≡ (flat longest).inserted (state_of C L c h) i k x) × Sound longest (set D (i + k) x) (set L i (n + 1)) c h r
+      insert_done x = put_in longest la lb C L c h r s i n (sym long) some D k (insert_room may).0 less ld opened_gap x
 
     -- ---- removing
 
@@ -70,10 +69,13 @@ module _ {E : Type 0} (longest : ℕ) (la : 31 ≤ longest) (lb : longest ≤ 32
         let w = room longest la lb C L c h r s i n (sym long) (omega arith) in
         (omega (arith, t), omega (arith, w.0, w.1), s.valid.within)
 
-    pub remove_done : no_remove (flat longest) (state_of C L c h) i k ≡ None → 1 < n → (D : List E) (q : Result (Unit {0}) StoreFault) → length D ≡ length C
-        → Says told q (in_slice (ltb (i + k) (i + n) && leb (i + n) (length C))) → Moves q C D (λ xs ys. Left xs ys (i + k) (i + n))
-        → (state_of D (set L i (n - 1)) c h ≡ kept (state_of C L c h) i (without (run_at C L i) k)) × Sound longest D (set L i (n - 1)) c h r
-    remove_done may more D q ld answer after =
-        let w = remove_room may in
-        let lt = shifted q _ C D (λ xs ys. Left xs ys (i + k) (i + n)) (and_from _ _ (lt-ltb (i + k) (i + n) (omega (arith, w.0))) (le-leb (i + n) (length C) w.1)) answer after in
-        taken_out longest la lb C L c h r s i n (sym long) (omega arith) D k w.0 more ld lt
+    module _ (may : no_remove (flat longest) (state_of C L c h) i k ≡ None) (D : List E) (q : Result (Unit {0}) StoreFault) (ld : length D ≡ length C)
+        (answer : Says told q (in_slice (ltb (i + k) (i + n) && leb (i + n) (length C)))) (after : Moves q C D (λ xs ys. Left xs ys (i + k) (i + n))) where
+      closed_gap : Left C D (i + k) (i + n)
+      closed_gap = let w = remove_room may in shifted q _ C D (λ xs ys. Left xs ys (i + k) (i + n)) (and_from _ _ (lt-ltb (i + k) (i + n) (omega (arith, w.0))) (le-leb (i + n) (length C) w.1)) answer after
+
+      pub remove_gap : Sound longest D L c h r
+      remove_gap = closed_sound longest la lb C L c h r s i n (sym long) (omega (arith, (remove_room may).0)) D k (remove_room may).0 ld closed_gap
+
+      pub remove_done : 1 < n → (state_of D (set L i (n - 1)) c h ≡ kept (state_of C L c h) i (without (run_at C L i) k)) × Sound longest D (set L i (n - 1)) c h r
+      remove_done more = taken_out longest la lb C L c h r s i n (sym long) (omega arith) D k (remove_room may).0 ld closed_gap more

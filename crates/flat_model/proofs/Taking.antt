@@ -85,9 +85,6 @@ module _ {E : Type 0} (longest : ℕ) (la : 31 ≤ longest) (lb : longest ≤ 32
         }
 
   module _ (i : ℕ) (h : 1 ≤ length (s.live i)) where
-    pub live_low : i < indexes
-    live_low = omega (arith, (v.living i h).1, v.enough, v.within)
-
     -- a live run's group is not among the freed ones
     pub not_freed : times i s.free ≡ 0
     not_freed = elim (cases_eq (times i s.free) 0) [ inl e ↦ e | inr ne ↦ absurd (omega (arith, ap length (v.freed i (omega arith)).1)) ]

@@ -1,10 +1,10 @@
 -- Parts of a list of cells, and what writing and shifting make of them.
-use Rattle.std.proofs.Common.{◌≡◌, ℕ, zero, suc, ◌+◌, ◌-◌, ◌<◌, ◌≤◌, ◌⊎◌, List, [], ◌∷◌, ◌++◌, length, get_or, take, drop, set, None, sym, refl, ap, ◌∙◌, inl, inr, ⊎_elim, le_of_suc-le-suc, suc-add, zero-add, add-one, arith, length-drop, length-set, get_or-set_other, get_or-set_same}
+use Rattle.std.proofs.Common.{◌≡◌, ℕ, ◌+◌, ◌-◌, ◌<◌, ◌≤◌, ◌⊎◌, List, ◌++◌, length, get_or, take, drop, set, sym, ap, ◌∙◌, inl, inr, ⊎_elim, add-one, arith, length-drop, length-set, get_or-set_other, get_or-set_same}
 use Rattle.std.specs.List.{insert, remove}
 use Rattle.std.proofs.lemmas.List.{same_lists, length-take-le, get_or-take, get_or-drop}
 use Rattle.std.proofs.lemmas.List.Edits.{length-insert, get_or-insert_below, get_or-insert_at, get_or-insert_above, length-remove, get_or-remove_below, get_or-remove_above}
 use Rattle.std.proofs.lemmas.Bool.{cases_eq, cases_lt, cases_order}
-use Rattle.runs.specs.Lists.{nth, with_new, without}
+use Rattle.runs.specs.Lists.{with_new, without}
 use Rattle.runs.specs.Shift.{Right, Left}
 
 -- a window of a list: how long it is, and what stands in it
@@ -13,25 +13,6 @@ window_length xs at n h = length-take-le n (drop at xs) (simp length-drop (omega
 
 pub window_at : {X : Type 0} (xs : List X) (at n k : ℕ) (d : X) → k < n → get_or (take n (drop at xs)) k d ≡ get_or xs (at + k) d
 window_at xs at n k d h = get_or-take n (drop at xs) k d h ∙ get_or-drop at xs k d
-
-nth_take : {X : Type 0} (n k : ℕ) (xs : List X) → k < n → nth (take n xs) k ≡ nth xs k
-nth_take zero k xs h = absurd (omega arith)
-nth_take (suc n) k [] h = refl
-nth_take (suc n) zero (x ∷ xs) h = refl
-nth_take (suc n) (suc k) (x ∷ xs) h = nth_take n k xs (le_of_suc-le-suc h)
-
-nth_drop : {X : Type 0} (i k : ℕ) (xs : List X) → nth (drop i xs) k ≡ nth xs (i + k)
-nth_drop zero k xs = ap (nth xs) (sym (zero-add k))
-nth_drop (suc i) k [] = refl
-nth_drop (suc i) k (x ∷ xs) = nth_drop i k xs ∙ ap (nth (x ∷ xs)) (sym (suc-add i k))
-
-pub nth_window : {X : Type 0} (xs : List X) (i n k : ℕ) → k < n → nth (take n (drop i xs)) k ≡ nth xs (i + k)
-nth_window xs i n k h = nth_take n k (drop i xs) h ∙ nth_drop i k xs
-
-pub nth_there : {X : Type 0} (xs : List X) (k : ℕ) → k < length xs → nth xs k ≡ None → ⊥
-nth_there [] k h e = omega arith
-nth_there (x ∷ xs) zero h e = let z : ◌≡◌ {A = ℕ} 0 1 = cc in omega arith
-nth_there (x ∷ xs) (suc k) h e = nth_there xs k (le_of_suc-le-suc h) e
 
 pub set_window : {E : Type 0} (C : List E) (i k n : ℕ) (e : E) → i + n ≤ length C → k < n → take n (drop i (set C (i + k) e)) ≡ set (take n (drop i C)) k e
 set_window {E} C i k n e h l =

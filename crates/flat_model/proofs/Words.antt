@@ -87,7 +87,7 @@ module _ {E : Type 0} (longest : ℕ) (la : 31 ≤ longest) (lb : longest ≤ 32
     none_freed : h ≡ 0 → freed_from L h ≡ []
     none_freed e = none_linked L (freed_from L h) (subst (λ (m : ℕ). Linked L m (freed_from L h)) e s.ends)
 
-    pub claims : h ≡ 0 → has longest (state_of C L c h) ≡ true → c + longest ≤ length C
+    claims : h ≡ 0 → has longest (state_of C L c h) ≡ true → c + longest ≤ length C
     claims e t = leb-true (c + longest) (length C) (ap (λ (fs : List ℕ). some_free fs || leb (c + longest) (length C)) (sym (none_freed e)) ∙ t)
 
     -- the next unclaimed group, whose size the code has as m
