@@ -1,18 +1,19 @@
 use Rattle.std.proofs.Common.{arith}
-use Rattle.flat_model.proofs.Steps.{remove_room, remove_done}
+use Rattle.flat_model.proofs.Known.{known}
+use Rattle.flat_model.proofs.Steps.{remove_gap, remove_done}
 use Rattle.flat.proofs.flat.Flat.close_gap.Goals as goal
 
-pub overflow_add-at : goal.overflow_add-at
-overflow_add-at g c = let w = remove_room _ g.E.Entry.wide g.E.Entry.narrow _ _ _ _ _ c.requires.sound c.args.at c.args.n c.args.slot c.requires.long c.requires.may in omega arith
+pub invariant_of-self : goal.invariant_of-self
+invariant_of-self g c =
+    let s = remove_gap _ g.E.Entry.wide g.E.Entry.narrow _ _ _ _ _ (known g.E.Entry.LONGEST _ _ _ _ _ c.args.self.now.sound) c.args.at c.args.n c.args.slot c.requires.long c.requires.may c.shift_left.new.cells c.shift_left.result (omega arith) c.shift_left.ensures.answer c.shift_left.ensures.after in
+    record { sound = ∣ s ∣₁ }
 
-pub overflow_add-at-2 : goal.overflow_add-at-2
-overflow_add-at-2 g c = let w = remove_room _ g.E.Entry.wide g.E.Entry.narrow _ _ _ _ _ c.requires.sound c.args.at c.args.n c.args.slot c.requires.long c.requires.may in omega arith
-
-pub bounds-self-at : goal.bounds-self-at
-bounds-self-at g c = let w = remove_room _ g.E.Entry.wide g.E.Entry.narrow _ _ _ _ _ c.requires.sound c.args.at c.args.n c.args.slot c.requires.long c.requires.may in omega (arith, c.requires.sound.same)
+pub invariant_of-self-2 : goal.invariant_of-self-2
+invariant_of-self-2 g c =
+    let a = remove_done _ g.E.Entry.wide g.E.Entry.narrow _ _ _ _ _ (known g.E.Entry.LONGEST _ _ _ _ _ c.args.self.now.sound) c.args.at c.args.n c.args.slot c.requires.long c.requires.may c.shift_left.new.cells c.shift_left.result (omega arith) c.shift_left.ensures.answer c.shift_left.ensures.after c.requires.more in
+    record { sound = ∣ a.1 ∣₁ }
 
 pub returns : goal.returns
 returns g c =
-    let a = remove_done _ g.E.Entry.wide g.E.Entry.narrow _ _ _ _ _ c.requires.sound c.args.at c.args.n c.args.slot c.requires.long c.requires.may c.requires.more
-    c.shift_left.new.cells c.shift_left.result (omega arith) c.shift_left.ensures.answer c.shift_left.ensures.after in
-    record { sound = a.1; after = a.0 }
+    let a = remove_done _ g.E.Entry.wide g.E.Entry.narrow _ _ _ _ _ (known g.E.Entry.LONGEST _ _ _ _ _ c.args.self.now.sound) c.args.at c.args.n c.args.slot c.requires.long c.requires.may c.shift_left.new.cells c.shift_left.result (omega arith) c.shift_left.ensures.answer c.shift_left.ensures.after c.requires.more in
+    record { after = a.0 }

@@ -2,7 +2,12 @@ use Rattle.std.proofs.Common.{arith}
 use Rattle.flat_model.proofs.Starts.{started}
 use Rattle.flat.proofs.flat.Flat.over.Goals as goal
 
+pub invariant_of-result : goal.invariant_of-result
+invariant_of-result g c =
+    let a = started _ g.E.Entry.wide g.E.Entry.narrow c.args.cells.now c.fill.new.self _ (omega arith) c.requires.low (c.fill.ensures.after (λ y e. e)) in
+    record { sound = ∣ a.1 ∣₁ }
+
 pub returns : goal.returns
 returns g c =
-    let a = started g.E.Entry.longest g.E.Entry.wide g.E.Entry.narrow c.args.cells.now c.clear.new.ledger (omega (arith, c.requires.same)) c.requires.low c.clear.ensures in
-    record { sound = a.1; after = a.0 }
+    let a = started _ g.E.Entry.wide g.E.Entry.narrow c.args.cells.now c.fill.new.self _ (omega arith) c.requires.low (c.fill.ensures.after (λ y e. e)) in
+    record { after = a.0 }
