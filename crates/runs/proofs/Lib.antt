@@ -1,4 +1,5 @@
 pub mod Table
+pub mod Tiers
 pub mod Sizes
 pub mod Counts
 pub mod Known

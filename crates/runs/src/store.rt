@@ -44,7 +44,6 @@ pub trait Runs {
     fn shrink(&self, n: u32) -> Result<(), StoreFault>
         ensures { Says told result (shrinks model (state self.now) n) };
 
-
     // The length of the run at an index that has the slot.
     final fn may_read(
         &self,

@@ -60,15 +60,6 @@ impl<'a, E: Entry> Tiered<'a, E> {
         }
     }
 
-    // How many entries the run at an index has; 0 where none lives.
-    fn run_length(&self, at: u32) -> u32
-        ensures { result ≡ length ((store_state self.now).live at) }
-    {
-        self.ledger
-            .get(at as usize)
-            .map_or(0, |word| (*word % 64) as u32)
-    }
-
     // Whether a group of size y can be had.
     fn has_group(&self, y: u32) -> bool
         requires small { y ≤ 32 }
@@ -87,30 +78,6 @@ impl<'a, E: Entry> Tiered<'a, E> {
         } else {
             Err(StoreFault::NoGroup(0))
         }
-    }
-
-    fn may_grow(&self, n: u32) -> Result<(), StoreFault>
-        ensures { Says told result (grows (tiered E.Entry.LONGEST) (store_state self.now) n) }
-    {
-        if n >= E::LONGEST {
-            return Err(StoreFault::AtLongest);
-        }
-        if n == 0 {
-            return self.may_change(0, 1);
-        }
-        self.may_change(E::size(n), E::size(n + 1))
-    }
-
-    fn may_shrink(&self, n: u32) -> Result<(), StoreFault>
-        ensures { Says told result (shrinks (tiered E.Entry.LONGEST) (store_state self.now) n) }
-    {
-        if n == 0 || n > E::LONGEST {
-            return Err(StoreFault::BadSlot);
-        }
-        if n == 1 {
-            return Ok(());
-        }
-        self.may_change(E::size(n), E::size(n - 1))
     }
 
     // A group of size y becomes a run of n entries, whatever its cells hold.

@@ -46,15 +46,29 @@ impl<'a, E: Entry> Runs for Tiered<'a, E> {
     }
 
     fn length(&self, at: E::Index) -> u32 {
-        self.run_length(at.number())
+        self.ledger
+            .get(at.number() as usize)
+            .map_or(0, |word| (*word % 64) as u32)
     }
 
     fn grow(&self, n: u32) -> Result<(), StoreFault> {
-        self.may_grow(n)
+        if n >= E::LONGEST {
+            return Err(StoreFault::AtLongest);
+        }
+        if n == 0 {
+            return self.may_change(0, 1);
+        }
+        self.may_change(E::size(n), E::size(n + 1))
     }
 
     fn shrink(&self, n: u32) -> Result<(), StoreFault> {
-        self.may_shrink(n)
+        if n == 0 || n > E::LONGEST {
+            return Err(StoreFault::BadSlot);
+        }
+        if n == 1 {
+            return Ok(());
+        }
+        self.may_change(E::size(n), E::size(n - 1))
     }
 
     ghost lawful = { lawful E.Entry.LONGEST E.Entry.wide E.Entry.narrow };
@@ -76,7 +90,7 @@ impl<'a, E: Entry> RunStore for Tiered<'a, E> {
     }
 
     fn open(&mut self, e: E) -> Result<E::Index, StoreFault> {
-        self.may_grow(0)?;
+        self.grow(0)?;
         Ok(E::Index::at(self.open_run(e)))
     }
 

@@ -1,7 +1,6 @@
 -- That a store's memory agrees with itself is known by its type, which says only that it holds; here it is at hand again. The one part
 -- that is no order and no equation, the size of the group that begins at a cell, is read off the runs and the freed groups.
 use Rattle.std.proofs.Common.{◌≡◌, ℕ, zero, suc, ◌+◌, ◌<◌, ◌≤◌, cond, eqb, List, [], ◌∷◌, length, slice_index, sym, ap, ◌∙◌, subst, inl, inr, arith}
-use Rattle.std.proofs.Math.Logic.{∥∥₁_map}
 use Rattle.std.proofs.lemmas.Bool.{cases_eq, eq-eqb, ne_eqb}
 use Rattle.runs.specs.Sizes.{size, times}
 use Rattle.runs.proofs.Known.{le_known, eq_known, nil_known}

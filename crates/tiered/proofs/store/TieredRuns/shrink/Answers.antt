@@ -1,7 +1,7 @@
 use Rattle.runs.specs.Refusals.{told}
 use Rattle.std.proofs.Common.{ℕ, ap, ◌∙◌, arith}
-use Rattle.tiered.proofs.Tiered.may_shrink.Goals.{then-n-eq0-via-then-n-eq0, then-n-eq0-via-else-n-eq0+then-n-LONGEST}
-use Rattle.tiered.proofs.Tiered.may_shrink.Goals as goal
+use Rattle.tiered.proofs.store.TieredRuns.shrink.Goals.{then-n-eq0-via-then-n-eq0, then-n-eq0-via-else-n-eq0+then-n-LONGEST}
+use Rattle.tiered.proofs.store.TieredRuns.shrink.Goals as goal
 use Rattle.runs.specs.Sizes.{size}
 use Rattle.tiered_model.specs.Tiered.{change}
 use Rattle.tiered.specs.Meaning.{store_state}

@@ -1,6 +1,6 @@
 use Rattle.runs.specs.Refusals.{told}
 use Rattle.std.proofs.Common.{ℕ, ap, ◌∙◌, arith}
-use Rattle.tiered.proofs.Tiered.may_grow.Goals as goal
+use Rattle.tiered.proofs.store.TieredRuns.grow.Goals as goal
 use Rattle.runs.specs.Sizes.{size}
 use Rattle.tiered_model.specs.Tiered.{change}
 use Rattle.tiered.specs.Meaning.{store_state}
