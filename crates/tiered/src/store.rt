@@ -46,9 +46,10 @@ impl<'a, E: Entry> Runs for Tiered<'a, E> {
     }
 
     fn length(&self, at: E::Index) -> u32 {
-        self.ledger
-            .get(at.number() as usize)
-            .map_or(0, |word| (*word % 64) as u32)
+        match self.ledger.get(at.number() as usize) {
+            Some(word) => (*word % 64) as u32,
+            None => 0,
+        }
     }
 
     fn grow(&self, n: u32) -> Result<(), StoreFault> {

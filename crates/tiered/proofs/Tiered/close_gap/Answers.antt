@@ -6,17 +6,6 @@ use Rattle.runs.proofs.Shifts.{either_way, left_fits, is_granted, has_moved}
 use Rattle.tiered.proofs.Tiered.close_gap.Goals as goal
 use Rattle.tiered_model.proofs.Cells.{slot_cells, gap_closed}
 
-pub overflow_add-at : goal.overflow_add-at
-overflow_add-at g c = let b = slot_cells _ g.E.Entry.wide g.E.Entry.narrow _ _ _ _ _ (known g.E.Entry.LONGEST _ _ _ _ _ c.args.self.now.sound) c.args.at c.args.slot (omega (arith, c.requires.long)) in omega arith
-
-pub overflow_add-at-2 : goal.overflow_add-at-2
-overflow_add-at-2 g c = let b = slot_cells _ g.E.Entry.wide g.E.Entry.narrow _ _ _ _ _ (known g.E.Entry.LONGEST _ _ _ _ _ c.args.self.now.sound) c.args.at c.args.slot (omega (arith, c.requires.long)) in omega arith
-
-pub unwrap-requires : goal.unwrap-requires
-unwrap-requires g c =
-    let b = slot_cells _ g.E.Entry.wide g.E.Entry.narrow _ _ _ _ _ (known g.E.Entry.LONGEST _ _ _ _ _ c.args.self.now.sound) c.args.at c.args.slot (omega (arith, c.requires.long)) in
-    is_granted _ _ _ c.shift_left.ensures.answer (left_fits (c.args.at + c.args.slot) (c.args.at + c.args.n) (length c.args.self.now.cells.now) (omega arith) (omega arith))
-
 pub returns : goal.returns
 returns g c =
     let b = slot_cells _ g.E.Entry.wide g.E.Entry.narrow _ _ _ _ _ (known g.E.Entry.LONGEST _ _ _ _ _ c.args.self.now.sound) c.args.at c.args.slot (omega (arith, c.requires.long)) in

@@ -1,10 +1,7 @@
 use Rattle.tiered_model.proofs.Known.{known}
 use Rattle.std.proofs.Common.{refl}
 use Rattle.tiered.proofs.Tiered.lengthen.Goals as goal
-use Rattle.tiered_model.proofs.Changes.{lengthened, live_index}
-
-pub bounds-self-at : goal.bounds-self-at
-bounds-self-at g c = live_index _ g.E.Entry.wide g.E.Entry.narrow _ _ _ _ _ (known g.E.Entry.LONGEST _ _ _ _ _ c.args.self.now.sound) c.args.at c.requires.live
+use Rattle.tiered_model.proofs.Changes.{lengthened}
 
 pub returns : goal.returns
 returns g c =

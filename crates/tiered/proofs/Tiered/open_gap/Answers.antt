@@ -2,29 +2,12 @@ use Rattle.runs.specs.Shift.{Right}
 use Rattle.tiered_model.specs.Ledger.{Sound}
 use Rattle.tiered_model.proofs.Known.{known}
 use Rattle.runs.proofs.Shifts.{either_way, right_fits, is_granted, has_moved}
-use Rattle.std.proofs.Common.{◌+◌, ◌<◌, length, refl, arith, rules}
+use Rattle.std.proofs.Common.{◌+◌, length, refl, arith}
 use Rattle.tiered.proofs.Tiered.open_gap.Goals as goal
 use Rattle.tiered_model.proofs.Cells.{slot_cells, gap_opened, gap_moved}
 
-pub overflow_add-at : goal.overflow_add-at
-overflow_add-at g c = let b = slot_cells _ g.E.Entry.wide g.E.Entry.narrow _ _ _ _ _ (known g.E.Entry.LONGEST _ _ _ _ _ c.args.self.now.sound) c.args.at c.args.slot (omega (arith, c.requires.long)) in omega arith
-
-pub overflow_add-at-2 : goal.overflow_add-at-2
-overflow_add-at-2 g c = let b = slot_cells _ g.E.Entry.wide g.E.Entry.narrow _ _ _ _ _ (known g.E.Entry.LONGEST _ _ _ _ _ c.args.self.now.sound) c.args.at c.args.slot (omega (arith, c.requires.long)) in omega arith
-
-pub unwrap-requires : goal.unwrap-requires
-unwrap-requires g c =
-    let b = slot_cells _ g.E.Entry.wide g.E.Entry.narrow _ _ _ _ _ (known g.E.Entry.LONGEST _ _ _ _ _ c.args.self.now.sound) c.args.at c.args.slot (omega (arith, c.requires.long)) in
-    is_granted _ _ _ c.shift_right.ensures.answer (right_fits (c.args.at + c.args.slot) (c.args.at + c.args.n) (length c.args.self.now.cells.now) (omega arith) (omega arith))
-
 pub overflow_add-e : goal.overflow_add-e
 overflow_add-e g c = let b = slot_cells _ g.E.Entry.wide g.E.Entry.narrow _ _ _ _ _ (known g.E.Entry.LONGEST _ _ _ _ _ c.args.self.now.sound) c.args.at c.args.slot (omega (arith, c.requires.long)) in omega arith
-
-pub offset_bounds-self-at : goal.offset_bounds-self-at
-offset_bounds-self-at g c = let b = slot_cells _ g.E.Entry.wide g.E.Entry.narrow _ _ _ _ _ (known g.E.Entry.LONGEST _ _ _ _ _ c.args.self.now.sound) c.args.at c.args.slot (omega (arith, c.requires.long)) in let h : c.args.at + c.args.slot < length c.args.self.now.cells.now = omega arith in search rules
-
-pub bounds-self-at : goal.bounds-self-at
-bounds-self-at g c = let b = slot_cells _ g.E.Entry.wide g.E.Entry.narrow _ _ _ _ _ (known g.E.Entry.LONGEST _ _ _ _ _ c.args.self.now.sound) c.args.at c.args.slot (omega (arith, c.requires.long)) in omega arith
 
 pub returns : goal.returns
 returns g c =

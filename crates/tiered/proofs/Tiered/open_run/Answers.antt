@@ -5,13 +5,6 @@ use Rattle.tiered.specs.Meaning.{store_state}
 use Rattle.tiered_model.proofs.Changes.{new_fits}
 use Rattle.tiered_model.proofs.Moves.{open_may, held_live, opened_all}
 
-pub take_group-at-requires : goal.take_group-at-requires
-take_group-at-requires g c = record {
-  long = (omega arith, omega (arith, g.E.Entry.wide));
-  sized = refl;
-  has = open_may g.E.Entry.LONGEST (store_state c.args.self.now) (omega (arith, g.E.Entry.wide)) c.requires.may;
-}
-
 pub replace-requires : goal.replace-requires
 replace-requires g c =
     let xs = take 1 (drop c.take_group-at.result c.args.self.now.cells.now) in

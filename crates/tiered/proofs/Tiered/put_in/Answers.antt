@@ -11,12 +11,6 @@ resize-to-requires g c =
     let m = insert_may g.E.Entry.LONGEST g.E.Entry.wide g.E.Entry.narrow (store_state c.args.self.now) (known g.E.Entry.LONGEST _ _ _ _ _ c.args.self.now.sound).valid c.args.at c.args.n (sym c.requires.long) some c.args.slot c.args.e c.requires.may in
     record { old = (some, sym c.requires.long); new = (omega arith, omega (arith, m.1)); may = m.2 }
 
-pub open_gap-requires : goal.open_gap-requires
-open_gap-requires g c =
-    let some : 1 ≤ c.args.n = omega (arith, (insert_told g.E.Entry.LONGEST (store_state c.args.self.now) c.args.at c.args.slot c.requires.may).0) in
-    let m = insert_may g.E.Entry.LONGEST g.E.Entry.wide g.E.Entry.narrow (store_state c.args.self.now) (known g.E.Entry.LONGEST _ _ _ _ _ c.args.self.now.sound).valid c.args.at c.args.n (sym c.requires.long) some c.args.slot c.args.e c.requires.may in
-    record { long = c.resize-to.ensures.after.long; slot = m.0 }
-
 pub returns : goal.returns
 returns g c =
     let some : 1 ≤ c.args.n = omega (arith, (insert_told g.E.Entry.LONGEST (store_state c.args.self.now) c.args.at c.args.slot c.requires.may).0) in

@@ -2,19 +2,7 @@ use Rattle.tiered_model.proofs.Known.{known}
 use Rattle.std.proofs.Common.{◌<◌, length, refl, arith}
 use Rattle.tiered.proofs.Tiered.release.Goals as goal
 use Rattle.tiered.specs.Meaning.{store_state}
-use Rattle.tiered_model.proofs.Changes.{released, live_index, some_run, size_low}
-
-pub bounds-self-y : goal.bounds-self-y
-bounds-self-y g c = omega (arith, c.requires.sized, size_low g.E.Entry.LONGEST (length ((store_state c.args.self.now).live c.args.at)) g.E.Entry.wide g.E.Entry.narrow)
-
-pub bounds-self-at : goal.bounds-self-at
-bounds-self-at g c = live_index _ g.E.Entry.wide g.E.Entry.narrow _ _ _ _ _ (known g.E.Entry.LONGEST _ _ _ _ _ c.args.self.now.sound) c.args.at c.requires.live
-
-pub overflow_add-self : goal.overflow_add-self
-overflow_add-self g c = omega (arith, live_index _ g.E.Entry.wide g.E.Entry.narrow _ _ _ _ _ (known g.E.Entry.LONGEST _ _ _ _ _ c.args.self.now.sound) c.args.at c.requires.live, (known g.E.Entry.LONGEST _ _ _ _ _ c.args.self.now.sound).same, (known g.E.Entry.LONGEST _ _ _ _ _ c.args.self.now.sound).valid.within)
-
-pub bounds-self-y-2 : goal.bounds-self-y-2
-bounds-self-y-2 g c = omega (arith, c.requires.sized, size_low g.E.Entry.LONGEST (length ((store_state c.args.self.now).live c.args.at)) g.E.Entry.wide g.E.Entry.narrow)
+use Rattle.tiered_model.proofs.Changes.{released, some_run, size_low}
 
 pub overflow_sub-self : goal.overflow_sub-self
 overflow_sub-self g c = some_run _ g.E.Entry.wide g.E.Entry.narrow _ _ _ _ _ (known g.E.Entry.LONGEST _ _ _ _ _ c.args.self.now.sound) c.args.at c.requires.live

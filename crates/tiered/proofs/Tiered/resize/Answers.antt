@@ -1,17 +1,9 @@
 use Rattle.tiered_model.proofs.Known.{known}
-use Rattle.std.proofs.Common.{◌≡◌, take, drop, sym, ap, ◌∙◌, arith}
+use Rattle.std.proofs.Common.{take, drop, sym, ◌∙◌}
 use Rattle.tiered.proofs.Tiered.resize.Goals as goal
-use Rattle.runs.specs.Sizes.{size}
 use Rattle.tiered.specs.Meaning.{store_state}
 use Rattle.tiered_model.proofs.Changes.{window_fits}
-use Rattle.tiered_model.proofs.Moves.{resized_here, change_had}
-
-pub lengthen-requires : goal.lengthen-requires
-lengthen-requires g c = record {
-  live = omega (arith, c.requires.old.0, c.requires.old.1);
-  long = c.requires.new;
-  sized = ap (size g.E.Entry.LONGEST) c.requires.old.1 ∙ sym c.size-old.ensures ∙ c.if-old-new.true ∙ c.size-new.ensures;
-}
+use Rattle.tiered_model.proofs.Moves.{resized_here}
 
 pub returns-then-old-new : goal.returns-then-old-new
 returns-then-old-new g c =
@@ -21,8 +13,3 @@ returns-then-old-new g c =
     record {
       after = resized_here g.E.Entry.LONGEST g.E.Entry.wide g.E.Entry.narrow (store_state c.args.self.now) (known g.E.Entry.LONGEST _ _ _ _ _ c.args.self.now.sound).valid c.args.at c.args.n c.requires.old.1 c.requires.old.0 c.args.m c.requires.new.0 c.requires.new.1 (store_state c.lengthen.new.self) ys e f.0 c.lengthen.ensures.after f.1;
     }
-
-pub move_run-requires : goal.move_run-requires
-move_run-requires g c =
-    let ne : size g.E.Entry.LONGEST c.args.n ≡ size g.E.Entry.LONGEST c.args.m → ⊥ = λ q. c.if-old-new.false (c.size-old.ensures ∙ q ∙ sym c.size-new.ensures) in
-    record { old = c.requires.old; new = c.requires.new; other = ne; has = change_had (store_state c.args.self.now) _ _ c.requires.may ne }

@@ -25,9 +25,6 @@ overflow_cast-before-2 g c =
     let f = front_low _ g.E.Entry.wide g.E.Entry.narrow _ _ _ _ _ (known g.E.Entry.LONGEST _ _ _ _ _ c.args.self.now.sound) c.args.y c.args.n c.requires.long.0 c.requires.long.1 c.requires.sized b in
     omega (arith, f.1, (known g.E.Entry.LONGEST _ _ _ _ _ c.args.self.now.sound).same, (known g.E.Entry.LONGEST _ _ _ _ _ c.args.self.now.sound).valid.within)
 
-pub bounds-self-y-2 : goal.bounds-self-y-2
-bounds-self-y-2 g c = omega (arith, size_low g.E.Entry.LONGEST c.args.n g.E.Entry.wide g.E.Entry.narrow)
-
 pub bounds-self-at-3 : goal.bounds-self-at-3
 bounds-self-at-3 g c =
     let b : 0 < get_or c.args.self.now.heads c.args.y 0 = omega (arith, c.if-head-eq0.false) in

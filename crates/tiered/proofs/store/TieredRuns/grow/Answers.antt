@@ -4,13 +4,10 @@ use Rattle.tiered.proofs.store.TieredRuns.grow.Goals as goal
 use Rattle.runs.specs.Sizes.{size}
 use Rattle.tiered_model.specs.Tiered.{change}
 use Rattle.tiered.specs.Meaning.{store_state}
-use Rattle.tiered_model.proofs.Questions.{grows_beyond, grows_first, grows_on, says_as}
+use Rattle.tiered_model.proofs.Questions.{grows_beyond, grows_on, says_as}
 
 pub returns-then-n-LONGEST : goal.returns-then-n-LONGEST
 returns-then-n-LONGEST g c = grows_beyond g.E.Entry.LONGEST (store_state c.args.self.now) c.args.n (omega arith)
-
-pub returns-then-n-eq0 : goal.returns-then-n-eq0
-returns-then-n-eq0 g c = says_as told _ _ _ (grows_first g.E.Entry.LONGEST (store_state c.args.self.now) c.args.n c.if-n-eq0.true (omega (arith, g.E.Entry.wide))) c.may_change.ensures
 
 pub returns : goal.returns
 returns g c =

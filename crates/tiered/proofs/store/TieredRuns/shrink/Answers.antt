@@ -5,16 +5,13 @@ use Rattle.tiered.proofs.store.TieredRuns.shrink.Goals as goal
 use Rattle.runs.specs.Sizes.{size}
 use Rattle.tiered_model.specs.Tiered.{change}
 use Rattle.tiered.specs.Meaning.{store_state}
-use Rattle.tiered_model.proofs.Questions.{shrinks_none, shrinks_beyond, shrinks_last, shrinks_on, says_as}
+use Rattle.tiered_model.proofs.Questions.{shrinks_none, shrinks_beyond, shrinks_on, says_as}
 
 pub returns-then-n-eq0 : goal.returns-then-n-eq0
 returns-then-n-eq0 g c = elim c.then-n-eq0.branch [
   | then-n-eq0-via-then-n-eq0 w ↦ shrinks_none g.E.Entry.LONGEST (store_state c.args.self.now) c.args.n w.if-n-eq0.true
   | then-n-eq0-via-else-n-eq0+then-n-LONGEST w ↦ shrinks_beyond g.E.Entry.LONGEST (store_state c.args.self.now) c.args.n (omega (arith, w.if-n-LONGEST.true))
 ]
-
-pub returns-then-n-eq1 : goal.returns-then-n-eq1
-returns-then-n-eq1 g c = shrinks_last g.E.Entry.LONGEST (store_state c.args.self.now) c.args.n c.if-n-eq1.true (omega (arith, g.E.Entry.wide))
 
 pub returns : goal.returns
 returns g c =
