@@ -117,10 +117,7 @@ impl<'a, E: Entry> Flat<'a, E> {
         requires slot { slot < length ((store_state self.now).live at) }
         ensures { nth ((store_state self.now).live at) slot ≡ Some result }
     {
-        let Some(e) = entry_in(self.cells, (at + slot) as usize) else {
-            unreachable()
-        };
-        e
+        self.cells[(at + slot) as usize]
     }
 
     // Writes an entry at a slot of a run.

@@ -50,11 +50,9 @@ impl<'a, E: Entry> Runs for Flat<'a, E> {
     }
 
     fn length(&self, at: E::Index) -> u32 {
-        let i = at.number() as usize;
-        if i < self.ledger.len() {
-            (self.ledger[i] % 64) as u32
-        } else {
-            0
+        match self.ledger.get(at.number() as usize) {
+            Some(word) => (*word % 64) as u32,
+            None => 0,
         }
     }
 
