@@ -1,5 +1,5 @@
 -- Where the calls of the trip lead, from the last one back to the first.
-use Rattle.std.proofs.Common.{◌≡◌, ℕ, ◌<◌, Bool, true, false, ◌&&◌, eqb, ltb, [], ◌∷◌, length, Some, None, refl, ap, ◌∙◌, inl, inr, arith}
+use Rattle.std.proofs.Common.{◌≡◌, ℕ, ◌<◌, Bool, true, false, ◌&&◌, eqb, ltb, [], ◌∷◌, length, Some, None, refl, sym, ap, ◌∙◌, subst, inl, inr, arith}
 use Rattle.std.proofs.lemmas.Bool.{lt-ltb, ne_eqb, cond-true, cond-false}
 use Rattle.runs.specs.Calls.{moved_on}
 use Rattle.runs.specs.Refusals.{Grant, Refusal}
@@ -74,5 +74,5 @@ module _ {E S : Type 0} {m : Model E S} {longest : ℕ} {Valid : S → Type 0} (
   begin None e = let o = law.opening s first v e in middle _ o.0 record { none = o.1; is = o.2 } refl
   begin (Some f) e = home s false refl
 
-  pub ending : Ending (ends m s first second) (whole m s first second)
-  ending = begin (grows m s 0) refl
+  pub ending : (t : S) → t ≡ ends m s first second → Ending t (whole m s first second)
+  ending t e = subst (λ u. Ending u (whole m s first second)) (sym e) (begin (grows m s 0) refl)
