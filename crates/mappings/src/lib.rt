@@ -7,13 +7,13 @@ ghost use Rattle.bitmap.specs.Ranks.{rank, with_bit, without_bit};
 ghost use Rattle.runs.specs.Lists.{nth};
 ghost use Rattle.runs.specs.Refusals.{told};
 ghost use Rattle.runs.specs.Runs.{no_entry, no_remove};
-ghost use Rattle.runs.specs.Calls.{Tells, Asked, Called};
+ghost use Rattle.runs.specs.Calls.{Tells, Called};
 ghost use Rattle.mappings.specs.Mappings.{no_set, set_state, set_index};
 
 use bitmap::{Bit, compute_slot, is_set, with_bit, without_bit};
 use runs::entry::{NodeRow, StreamRecord};
 use runs::fault::StoreFault;
-use runs::index::{CellIndex, NodeIndex};
+use runs::index::{CellIndex, NodeIndex, RunIndex};
 use runs::store::RunStore;
 
 // The bits that have a mapping, and the run of their records, lowest bit first.
@@ -30,37 +30,27 @@ pub fn set_mapping<S: RunStore<Item = StreamRecord>>(
     bit: Bit,
     stream: StreamRecord,
 ) -> Result<Node, StoreFault>
-    requires { S.RunStore.sound store.old }
-    ensures called { Called S.RunStore.sound S.RunStore.state S.RunStore.memory store.old
-        (no_set S.RunStore.model (S.RunStore.state store.old) node.bitmap node.index.number bit.number)
-        (set_state S.RunStore.model (S.RunStore.state store.old) node.bitmap node.index.number bit.number stream)
+    ensures called { Called S.Runs.state S.Runs.memory store.old
+        (no_set S.Runs.model (S.Runs.state store.old) node.bitmap node.index.number bit.number)
+        (set_state S.Runs.model (S.Runs.state store.old) node.bitmap node.index.number bit.number stream)
         store.new }
-    ensures answer { Tells told result (no_set S.RunStore.model (S.RunStore.state store.old) node.bitmap node.index.number bit.number)
+    ensures answer { Tells told result (no_set S.Runs.model (S.Runs.state store.old) node.bitmap node.index.number bit.number)
         (λ n. (n.bitmap ≡ with_bit node.bitmap bit.number)
-        × (n.index.number ≡ set_index S.RunStore.model (S.RunStore.state store.old) node.bitmap node.index.number bit.number stream)) }
+        × (n.index.number ≡ set_index S.Runs.model (S.Runs.state store.old) node.bitmap node.index.number bit.number stream)) }
 {
     let slot = compute_slot(node.bitmap, bit);
-    if is_set(node.bitmap, bit) {
-        return match store.exchange(node.index, slot, stream) {
-            Ok(_) => Ok(Node {
-                bitmap: with_bit(node.bitmap, bit),
-                index: node.index,
-            }),
-            Err(f) => Err(f),
-        };
-    }
-    let index = if node.bitmap == 0 {
-        store.open(stream)
+    let index = if is_set(node.bitmap, bit) {
+        store.exchange(node.index, slot, stream)?;
+        node.index
+    } else if node.bitmap == 0 {
+        store.open(stream)?
     } else {
-        store.insert(node.index, slot, stream)
+        store.insert(node.index, slot, stream)?
     };
-    match index {
-        Ok(index) => Ok(Node {
-            bitmap: with_bit(node.bitmap, bit),
-            index,
-        }),
-        Err(f) => Err(f),
-    }
+    Ok(Node {
+        bitmap: with_bit(node.bitmap, bit),
+        index,
+    })
 }
 
 // The record of a bit is taken out; the answer is the record and the node without it.
@@ -69,41 +59,32 @@ pub fn clear_mapping<S: RunStore<Item = StreamRecord>>(
     node: Node,
     bit: Bit,
 ) -> Result<(StreamRecord, Node), StoreFault>
-    requires { S.RunStore.sound store.old }
-    ensures called { Called S.RunStore.sound S.RunStore.state S.RunStore.memory store.old
-        (no_remove S.RunStore.model (S.RunStore.state store.old) node.index.number (rank node.bitmap bit.number))
-        (S.RunStore.model.removed (S.RunStore.state store.old) node.index.number (rank node.bitmap bit.number))
+    ensures called { Called S.Runs.state S.Runs.memory store.old
+        (no_remove S.Runs.model (S.Runs.state store.old) node.index.number (rank node.bitmap bit.number))
+        (S.Runs.model.removed (S.Runs.state store.old) node.index.number (rank node.bitmap bit.number))
         store.new }
-    ensures answer { Tells told result (no_remove S.RunStore.model (S.RunStore.state store.old) node.index.number (rank node.bitmap bit.number))
-        (λ x. (nth (S.RunStore.model.live (S.RunStore.state store.old) node.index.number) (rank node.bitmap bit.number) ≡ Some x.0)
+    ensures answer { Tells told result (no_remove S.Runs.model (S.Runs.state store.old) node.index.number (rank node.bitmap bit.number))
+        (λ x. (nth (S.Runs.model.live (S.Runs.state store.old) node.index.number) (rank node.bitmap bit.number) ≡ Some x.0)
         × (x.1.bitmap ≡ without_bit node.bitmap bit.number)
-        × (x.1.index.number ≡ S.RunStore.model.removed_at (S.RunStore.state store.old) node.index.number (rank node.bitmap bit.number))) }
+        × (x.1.index.number ≡ S.Runs.model.removed_at (S.Runs.state store.old) node.index.number (rank node.bitmap bit.number))) }
 {
-    match store.remove(node.index, compute_slot(node.bitmap, bit)) {
-        Ok((stream, index)) => Ok((
-            stream,
-            Node {
-                bitmap: without_bit(node.bitmap, bit),
-                index,
-            },
-        )),
-        Err(f) => Err(f),
-    }
+    let (stream, index) = store.remove(node.index, compute_slot(node.bitmap, bit))?;
+    let node = Node {
+        bitmap: without_bit(node.bitmap, bit),
+        index,
+    };
+    Ok((stream, node))
 }
 
 // The row of the child at a bit, from a store of node rows.
 pub fn child_row<S: RunStore<Item = NodeRow>>(
-    store: &mut S,
+    store: &S,
     parent: NodeRow,
     bit: Bit,
 ) -> Result<NodeRow, StoreFault>
-    requires { S.RunStore.sound store.old }
-    ensures asked { Asked S.RunStore.sound S.RunStore.state S.RunStore.memory store.old store.new }
-    ensures answer { Tells told result (no_entry S.RunStore.model (S.RunStore.state store.old) parent.children_index (rank parent.child_bitmap bit.number))
-        (λ row. nth (S.RunStore.model.live (S.RunStore.state store.old) parent.children_index) (rank parent.child_bitmap bit.number) ≡ Some row) }
+    ensures { Tells told result (no_entry S.Runs.model (S.Runs.state store.now) parent.children_index (rank parent.child_bitmap bit.number))
+        (λ row. nth (S.Runs.model.live (S.Runs.state store.now) parent.children_index) (rank parent.child_bitmap bit.number) ≡ Some row) }
 {
-    let at = NodeIndex {
-        number: parent.children_index,
-    };
+    let at = NodeIndex::at(parent.children_index);
     store.entry(at, compute_slot(parent.child_bitmap, bit))
 }
