@@ -7,12 +7,13 @@
 use bitmap::{Bit, compute_slot, is_set};
 use mappings::{Node, clear_mapping, set_mapping};
 use runs::entry::StreamRecord;
-use runs::index::CellIndex;
+use runs::index::{CellIndex, RunIndex};
 use runs::store::RunStore;
 use std::io;
 use tiered::Tiered;
 
 // A store of records, played on and printed.
+#[derive(Drop)]
 struct Show<'a, 'b> {
     rt: &'a HostRuntime,
     store: Tiered<'b, StreamRecord>,
@@ -32,10 +33,7 @@ impl<'a, 'b> Show<'a, 'b> {
         if !is_set(node.bitmap, bit) {
             return Ok(());
         }
-        match self
-            .store
-            .entry(node.index, compute_slot(node.bitmap, bit))
-        {
+        match self.store.entry(node.index, compute_slot(node.bitmap, bit)) {
             Ok(stream) => print!(self.rt; " {b}={stream}"),
             Err(fault) => println!(self.rt; "  refused {fault}"),
         }

@@ -6,18 +6,59 @@ use bitmap::Slot;
 use flat::flat::Flat;
 use quota::quota::Quota;
 use runs::fault::StoreFault;
-use runs::index::CellIndex;
+use runs::index::{CellIndex, RunIndex};
 use runs::store::RunStore;
 use std::io;
 use tiered::Tiered;
 
-// A pile of quotas over a store, by its name.
-struct Pile<'a> {
+// What is done with a store, whatever store it is.
+trait Client {
+    fn with<S: RunStore<Item = u32> + Drop>(self, store: S) -> io::Result<()>;
+
+    // The store has a live run, so that no quota can be put over it.
+    fn refused(self) -> io::Result<()>;
+}
+
+// A quota over the store first, and then the rest.
+#[derive(Drop)]
+struct Limited<C> {
+    limit: u32,
+    then: C,
+}
+
+impl<C: Client + Drop> Client for Limited<C> {
+    fn with<S: RunStore<Item = u32> + Drop>(self, store: S) -> io::Result<()> {
+        let Limited { limit, then } = self;
+        match Quota::start(store, limit) {
+            Ok(quota) => then.with(quota),
+            Err(_) => then.refused(),
+        }
+    }
+
+    fn refused(self) -> io::Result<()> {
+        self.then.refused()
+    }
+}
+
+// The calls on a store, and the line of their answers, which begins with a name.
+#[derive(Clone, Copy)]
+struct Play<'a> {
     rt: &'a HostRuntime,
     name: &'a str,
 }
 
-impl<'a> Pile<'a> {
+impl<'a> Client for Play<'a> {
+    fn with<S: RunStore<Item = u32> + Drop>(self, store: S) -> io::Result<()> {
+        let mut store = store;
+        self.play(&mut store)
+    }
+
+    fn refused(self) -> io::Result<()> {
+        println!(self.rt; "{} | refused 12", self.name)
+    }
+}
+
+impl<'a> Play<'a> {
     // An index that was answered, which is handed on, or the refusal.
     fn index(
         &self,
@@ -54,113 +95,60 @@ impl<'a> Pile<'a> {
             Err(fault) => println!(self.rt; " | refused {fault}"),
         }
     }
+}
 
-    // A quota over the store, and then what is left to do.
-    fn under<S: RunStore<Item = u32> + Drop, F: FnOnce(Quota<S>) -> io::Result<()>>(
-        &self,
-        store: S,
-        limit: u32,
-        then: F,
-    ) -> io::Result<()>
-        requires { F.IsAlwaysCallable then }
-    {
-        match Quota::start(store, limit) {
-            Ok(quota) => then(quota),
-            Err(_) => println!(self.rt; "{} | refused 12", self.name),
-        }
-    }
+// The inner quota is written first.
+fn under<C>(limit: u32, then: C) -> Limited<C> {
+    Limited { limit, then }
 }
 
 // Seven cells hold a run of four, whose first group is free again for a second run of one.
 fn play_tiered(rt: &HostRuntime) -> io::Result<()> {
     let mut cells = [0u32; 7];
     let mut ledger = [0u64; 7];
-    let p = Pile {
-        rt,
-        name: "tiered 7",
-    };
-    p.play(&mut Tiered::new(&mut cells, &mut ledger))?;
-    let p = Pile {
-        rt,
-        name: "quota 9, tiered 7",
-    };
-    p.under(Tiered::new(&mut cells, &mut ledger), 9, |mut q| {
-        p.play(&mut q)
-    })?;
-    let p = Pile {
-        rt,
-        name: "quota 9, quota 9, tiered 7",
-    };
-    p.under(Tiered::new(&mut cells, &mut ledger), 9, |q| {
-        p.under(q, 9, |mut q| p.play(&mut q))
-    })?;
-    let p = Pile {
-        rt,
-        name: "quota 3, tiered 7",
-    };
-    p.under(Tiered::new(&mut cells, &mut ledger), 3, |mut q| {
-        p.play(&mut q)
-    })?;
-    let p = Pile {
-        rt,
-        name: "quota 9, quota 3, tiered 7",
-    };
-    p.under(Tiered::new(&mut cells, &mut ledger), 3, |q| {
-        p.under(q, 9, |mut q| p.play(&mut q))
-    })?;
-    let p = Pile {
-        rt,
-        name: "quota 9, quota 9, quota 3, tiered 7",
-    };
-    p.under(Tiered::new(&mut cells, &mut ledger), 3, |q| {
-        p.under(q, 9, |q| p.under(q, 9, |mut q| p.play(&mut q)))
-    })
+    let named = |name| Play { rt, name };
+    named("tiered 7").with(Tiered::new(&mut cells, &mut ledger))?;
+    under(9, named("quota 9, tiered 7")).with(Tiered::new(&mut cells, &mut ledger))?;
+    under(9, under(9, named("quota 9, quota 9, tiered 7"))).with(Tiered::new(
+        &mut cells,
+        &mut ledger,
+    ))?;
+    under(3, named("quota 3, tiered 7")).with(Tiered::new(&mut cells, &mut ledger))?;
+    under(3, under(9, named("quota 9, quota 3, tiered 7"))).with(Tiered::new(
+        &mut cells,
+        &mut ledger,
+    ))?;
+    under(
+        3,
+        under(9, under(9, named("quota 9, quota 9, quota 3, tiered 7"))),
+    )
+    .with(Tiered::new(&mut cells, &mut ledger))
 }
 
 // Thirty-one cells hold one run, of any length.
 fn play_flat(rt: &HostRuntime) -> io::Result<()> {
     let mut cells = [0u32; 31];
     let mut ledger = [0u64; 31];
-    let p = Pile {
-        rt,
-        name: "flat 31",
-    };
-    p.play(&mut Flat::new(&mut cells, &mut ledger))?;
-    let p = Pile {
-        rt,
-        name: "quota 9, flat 31",
-    };
-    p.under(Flat::new(&mut cells, &mut ledger), 9, |mut q| {
-        p.play(&mut q)
-    })?;
-    let p = Pile {
-        rt,
-        name: "quota 9, quota 9, flat 31",
-    };
-    p.under(Flat::new(&mut cells, &mut ledger), 9, |q| {
-        p.under(q, 9, |mut q| p.play(&mut q))
-    })?;
-    let p = Pile {
-        rt,
-        name: "quota 3, quota 9, flat 31",
-    };
-    p.under(Flat::new(&mut cells, &mut ledger), 9, |q| {
-        p.under(q, 3, |mut q| p.play(&mut q))
-    })?;
-    let p = Pile {
-        rt,
-        name: "quota 9, quota 3, flat 31",
-    };
-    p.under(Flat::new(&mut cells, &mut ledger), 3, |q| {
-        p.under(q, 9, |mut q| p.play(&mut q))
-    })?;
-    let p = Pile {
-        rt,
-        name: "quota 9, quota 9, quota 3, flat 31",
-    };
-    p.under(Flat::new(&mut cells, &mut ledger), 3, |q| {
-        p.under(q, 9, |q| p.under(q, 9, |mut q| p.play(&mut q)))
-    })
+    let named = |name| Play { rt, name };
+    named("flat 31").with(Flat::new(&mut cells, &mut ledger))?;
+    under(9, named("quota 9, flat 31")).with(Flat::new(&mut cells, &mut ledger))?;
+    under(9, under(9, named("quota 9, quota 9, flat 31"))).with(Flat::new(
+        &mut cells,
+        &mut ledger,
+    ))?;
+    under(9, under(3, named("quota 3, quota 9, flat 31"))).with(Flat::new(
+        &mut cells,
+        &mut ledger,
+    ))?;
+    under(3, under(9, named("quota 9, quota 3, flat 31"))).with(Flat::new(
+        &mut cells,
+        &mut ledger,
+    ))?;
+    under(
+        3,
+        under(9, under(9, named("quota 9, quota 9, quota 3, flat 31"))),
+    )
+    .with(Flat::new(&mut cells, &mut ledger))
 }
 
 fn main(rt: HostRuntime) -> io::Result<()> {

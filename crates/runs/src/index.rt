@@ -3,7 +3,6 @@ ghost use Rattle.std.specs.Prelude.{◌≡◌, ℕ, ◌==◌};
 ghost use Rattle.runs.specs.Lists.{empty};
 
 use std::fmt;
-use std::marker::PhantomData;
 
 // A number that names a run; the empty one, 4294967295, names none.
 pub trait RunIndex: Copy {
@@ -14,62 +13,76 @@ pub trait RunIndex: Copy {
 
     fn number(self) -> u32
         ensures { result ≡ number self };
+
+    // Names no run.
+    final fn empty() -> Self
+        ensures { number result ≡ empty }
+    {
+        Self::at(u32::MAX)
+    }
+
+    final fn is_empty(self) -> bool
+        ensures { result ≡ (number self == empty) }
+    {
+        self.number() == u32::MAX
+    }
 }
 
-// The index of a run of a kind: one of another kind can't stand in for it.
-#[derive(Clone, Copy)]
-pub struct Index<K> {
+// Two types, so that an index of one kind of run can't stand in for one of another. They can't be one struct over the kind: "it calls
+// what has the bound `Index<Values>: Clone`, written or implied, which a generic impl meets, and that is not supported yet".
+#[derive(Clone, Copy, Debug, PartialEq, Eq)]
+pub struct CellIndex {
     pub number: u32,
-    of: PhantomData<K>,
 }
 
-// The kinds: runs of values, and runs of node rows.
-#[derive(Clone, Copy)]
-pub struct Values;
+#[derive(Clone, Copy, Debug, PartialEq, Eq)]
+pub struct NodeIndex {
+    pub number: u32,
+}
 
-#[derive(Clone, Copy)]
-pub struct Nodes;
-
-pub type CellIndex = Index<Values>;
-
-pub type NodeIndex = Index<Nodes>;
-
-impl<K: Copy> RunIndex for Index<K> {
+impl RunIndex for CellIndex {
     ghost number = { λ i. i.number };
 
-    fn at(n: u32) -> Index<K> {
-        Index {
-            number: n,
-            of: PhantomData,
-        }
+    fn at(n: u32) -> CellIndex {
+        CellIndex { number: n }
     }
 
     fn number(self) -> u32 {
-        self.number
+        let CellIndex { number } = self;
+        number
     }
 }
 
-impl<K: Copy> Index<K> {
-    // Names no run.
-    pub fn empty() -> Index<K>
-        ensures { result.number ≡ empty }
-    {
-        Index::at(u32::MAX)
+impl RunIndex for NodeIndex {
+    ghost number = { λ i. i.number };
+
+    fn at(n: u32) -> NodeIndex {
+        NodeIndex { number: n }
     }
 
-    pub fn is_empty(self) -> bool
-        ensures { result ≡ (self.number == empty) }
-    {
-        self.number == u32::MAX
+    fn number(self) -> u32 {
+        let NodeIndex { number } = self;
+        number
     }
 }
 
-impl<K: Copy> fmt::Display for Index<K> {
+// The number, or - where no run is named.
+fn write_index<I: RunIndex, W: fmt::Write>(index: I, f: &mut fmt::Formatter<W>) -> fmt::Result {
+    if index.is_empty() {
+        write!(f, "-")
+    } else {
+        write!(f, "{}", index.number())
+    }
+}
+
+impl fmt::Display for CellIndex {
     fn fmt<W: fmt::Write>(&self, f: &mut fmt::Formatter<W>) -> fmt::Result {
-        if self.is_empty() {
-            write!(f, "-")
-        } else {
-            write!(f, "{}", self.number)
-        }
+        write_index(*self, f)
+    }
+}
+
+impl fmt::Display for NodeIndex {
+    fn fmt<W: fmt::Write>(&self, f: &mut fmt::Formatter<W>) -> fmt::Result {
+        write_index(*self, f)
     }
 }

@@ -44,7 +44,6 @@ pub fn filled<E: Entry>(cells: &mut [E], ledger: &mut [u64], n: usize, e: E) -> 
 mod tests {
     use super::*;
     use runs::entry::{NodeRow, StreamRecord};
-    use std::test::Fail;
 
     // Cells lent, and how many entries one run gets in them: at each size exactly full, and one short.
     const VALUES: [(usize, u32); 15] = [
@@ -65,42 +64,47 @@ mod tests {
         (90, 31),
     ];
 
-    // Over cells and a ledger of these, a run of e gets as many entries as a row says in the cells that it says.
-    fn at_each_size<E: Entry>(
-        rt: &HostRuntime,
-        blank: E,
-        word: u64,
+    // Whether a run of e gets as many entries as a row says in the cells that it says.
+    fn fits_at_each_size<E: Entry>(
+        cells: &mut [E],
+        ledger: &mut [u64],
         e: E,
         rows: &[(usize, u32)],
-    ) -> Result<(), Fail> {
-        let mut cells = [blank; 90];
-        let mut ledger = [word; 90];
+    ) -> bool {
         for (n, most) in rows {
-            assert_eq!(rt; filled(&mut cells, &mut ledger, *n, e), *most);
+            if filled(cells, ledger, *n, e) != *most {
+                return false;
+            }
         }
-        Ok(())
+        true
     }
 
     #[test]
-    fn plain_numbers_at_each_size(rt: HostRuntime) -> Result<(), Fail> {
-        at_each_size(&rt, 0u32, 7, 5, &VALUES)
+    fn plain_numbers_at_each_size(rt: HostRuntime) {
+        let mut cells = [0u32; 90];
+        let mut ledger = [7u64; 90];
+        assert!(rt; fits_at_each_size(&mut cells, &mut ledger, 5, &VALUES));
     }
 
     #[test]
-    fn stream_records_at_each_size(rt: HostRuntime) -> Result<(), Fail> {
+    fn stream_records_at_each_size(rt: HostRuntime) {
         let stream = StreamRecord {
             output: 3,
             queue: 1,
             rate: 4000,
         };
-        at_each_size(&rt, stream, 0, stream, &VALUES)
+        let mut cells = [stream; 90];
+        let mut ledger = [0u64; 90];
+        assert!(rt; fits_at_each_size(&mut cells, &mut ledger, stream, &VALUES));
     }
 
     #[test]
-    fn node_rows_have_runs_of_32(rt: HostRuntime) -> Result<(), Fail> {
+    fn node_rows_have_runs_of_32(rt: HostRuntime) {
         let row = NodeRow::default();
+        let mut cells = [row; 90];
+        let mut ledger = [0u64; 90];
         let rows = [(0, 0), (1, 1), (86, 24), (87, 32), (90, 32)];
-        at_each_size(&rt, row, 0, row, &rows)
+        assert!(rt; fits_at_each_size(&mut cells, &mut ledger, row, &rows));
     }
 
     // Two entries in and out again under a quota; false where a call is refused.
