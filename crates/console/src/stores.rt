@@ -39,6 +39,7 @@ trait Client<E: Entry> {
 }
 
 // A quota over the store first, where there is a limit. No run is live in it, so it is not refused.
+#[derive(Drop)]
 struct Limited<C> {
     limit: Option<u32>,
     client: C,

@@ -4,7 +4,7 @@ use std::fmt::Display;
 use std::str::FromStr;
 
 // A fresh cell holds the default.
-pub trait Value: Entry + Clone + Default + Display + FromStr {}
+pub trait Value: Entry + Clone + Default + Display + FromStr<Err: Drop> {}
 
 impl Value for u32 {}
 

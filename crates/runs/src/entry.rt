@@ -87,6 +87,19 @@ pub struct NodeRow {
     pub children_index: u32,
 }
 
+// The bitmaps and the indexes, of the values and of the children.
+impl fmt::Display for NodeRow {
+    fn fmt<W: fmt::Write>(&self, f: &mut fmt::Formatter<W>) -> fmt::Result {
+        let values = CellIndex::at(self.data_index);
+        let children = NodeIndex::at(self.children_index);
+        write!(
+            f,
+            "{} {} {values} {children}",
+            self.data_bitmap, self.child_bitmap
+        )
+    }
+}
+
 // A node with no value and no child.
 impl Default for NodeRow {
     fn default() -> NodeRow {
