@@ -1,35 +1,64 @@
 // Rows and records: a check makes a record of a row, and a record is written back as a row.
-ghost use Rattle.std.specs.Prelude.{◌≡◌, ◌<◌, MatchOption};
+ghost use Rattle.std.specs.Prelude.{◌≡◌, MatchResult};
 ghost use Rattle.table_model.specs.Table.{Passes, bare_row};
+ghost use Rattle.table_model.specs.States.{with_data, with_children};
 ghost use Rattle.nodes.specs.Records.{row_of};
 
+use crate::part::Part;
 use crate::record::NodeRecord;
 use runs::entry::NodeRow;
-use runs::index::{CellIndex, NodeIndex};
+use runs::index::{CellIndex, NodeIndex, RunIndex};
+use std::error::Error;
+use std::fmt;
+
+// A row that is no node's record.
+#[derive(Clone, Copy, Debug, PartialEq, Eq)]
+pub struct NoRecord;
+
+impl fmt::Display for NoRecord {
+    fn fmt<W: fmt::Write>(&self, f: &mut fmt::Formatter<W>) -> fmt::Result {
+        write!(f, "no node record")
+    }
+}
+
+impl Error for NoRecord {}
 
 // The record that a row is, if it passes.
-pub fn record_of(row: NodeRow) -> Option<NodeRecord>
-    ensures { MatchOption result (Passes row → ⊥) (λ n. Passes row × (row_of n ≡ row)) }
-{
-    if row.data_bitmap >= 0x8000_0000 {
-        return None;
+impl TryFrom<NodeRow> for NodeRecord {
+    type Error = NoRecord;
+
+    ghost try_from_gives = { λ row r. MatchResult r (λ n. Passes row × (row_of n ≡ row)) (λ _. Passes row → ⊥) };
+
+    fn try_from(row: NodeRow) -> Result<NodeRecord, NoRecord> {
+        if row.data_bitmap >= 0x8000_0000 {
+            return Err(NoRecord);
+        }
+        if (row.data_bitmap == 0) != (row.data_index == u32::MAX) {
+            return Err(NoRecord);
+        }
+        if (row.child_bitmap == 0) != (row.children_index == u32::MAX) {
+            return Err(NoRecord);
+        }
+        Ok(NodeRecord {
+            data_bitmap: row.data_bitmap,
+            child_bitmap: row.child_bitmap,
+            data_index: CellIndex::at(row.data_index),
+            children_index: NodeIndex::at(row.children_index),
+        })
     }
-    if (row.data_bitmap == 0) != (row.data_index == u32::MAX) {
-        return None;
+}
+
+impl From<NodeRecord> for NodeRow {
+    ghost from_gives = { λ n row. row ≡ row_of n };
+
+    fn from(n: NodeRecord) -> NodeRow {
+        NodeRow {
+            data_bitmap: n.data_bitmap,
+            child_bitmap: n.child_bitmap,
+            data_index: n.data_index.number,
+            children_index: n.children_index.number,
+        }
     }
-    if (row.child_bitmap == 0) != (row.children_index == u32::MAX) {
-        return None;
-    }
-    Some(NodeRecord {
-        data_bitmap: row.data_bitmap,
-        child_bitmap: row.child_bitmap,
-        data_index: CellIndex {
-            number: row.data_index,
-        },
-        children_index: NodeIndex {
-            number: row.children_index,
-        },
-    })
 }
 
 impl NodeRecord {
@@ -40,19 +69,52 @@ impl NodeRecord {
         NodeRecord {
             data_bitmap: 0,
             child_bitmap: 0,
-            data_index: CellIndex::EMPTY,
-            children_index: NodeIndex::EMPTY,
+            data_index: CellIndex::empty(),
+            children_index: NodeIndex::empty(),
         }
     }
 
-    pub fn row(self) -> NodeRow
-        ensures { result ≡ row_of self }
+    // The data bitmap and the run of values.
+    pub fn data(self) -> Part
+        ensures bitmap { result.bitmap ≡ self.data_bitmap }
+        ensures index { result.index ≡ self.data_index.number }
+    {
+        Part {
+            bitmap: self.data_bitmap,
+            index: self.data_index.number,
+        }
+    }
+
+    // The child bitmap and the run of children.
+    pub fn children(self) -> Part
+        ensures bitmap { result.bitmap ≡ self.child_bitmap }
+        ensures index { result.index ≡ self.children_index.number }
+    {
+        Part {
+            bitmap: self.child_bitmap,
+            index: self.children_index.number,
+        }
+    }
+
+    // The row of this record with other values; it is yet to be checked.
+    pub fn with_data(self, part: Part) -> NodeRow
+        ensures { result ≡ with_data (row_of self) part.bitmap part.index }
     {
         NodeRow {
-            data_bitmap: self.data_bitmap,
-            child_bitmap: self.child_bitmap,
-            data_index: self.data_index.number,
-            children_index: self.children_index.number,
+            data_bitmap: part.bitmap,
+            data_index: part.index,
+            ..NodeRow::from(self)
+        }
+    }
+
+    // And with other children.
+    pub fn with_children(self, part: Part) -> NodeRow
+        ensures { result ≡ with_children (row_of self) part.bitmap part.index }
+    {
+        NodeRow {
+            child_bitmap: part.bitmap,
+            children_index: part.index,
+            ..NodeRow::from(self)
         }
     }
 }

@@ -4,8 +4,10 @@ ghost use Rattle.nodes.specs.declared.fault.Fault.TheVariants.{Path};
 ghost use Rattle.nodes.specs.Told.{told_path, told_fault};
 
 use runs::fault::StoreFault;
+use std::error::Error;
+use std::fmt;
 
-#[derive(Clone, Copy)]
+#[derive(Clone, Copy, Debug, PartialEq, Eq)]
 pub enum PathFault {
     // 1: the path is longer than 25
     TooLong,
@@ -13,7 +15,7 @@ pub enum PathFault {
     Byte(u32),
 }
 
-#[derive(Clone, Copy)]
+#[derive(Clone, Copy, Debug, PartialEq, Eq)]
 pub enum Fault {
     Path(PathFault),
     // 3: a data bit above 30, or a child bit above 31
@@ -45,6 +47,18 @@ impl PathFault {
     }
 }
 
+// The number, and the position of the byte where one is told.
+impl fmt::Display for PathFault {
+    fn fmt<W: fmt::Write>(&self, f: &mut fmt::Formatter<W>) -> fmt::Result {
+        match self {
+            PathFault::TooLong => write!(f, "{}", self.number()),
+            PathFault::Byte(position) => write!(f, "{} {position}", self.number()),
+        }
+    }
+}
+
+impl Error for PathFault {}
+
 impl Fault {
     pub fn number(self) -> u32
         ensures { result ≡ (told_fault self).number }
@@ -62,6 +76,20 @@ impl Fault {
         }
     }
 }
+
+// The number, and what it carries: the count of child bits followed, or a store's own refusal.
+impl fmt::Display for Fault {
+    fn fmt<W: fmt::Write>(&self, f: &mut fmt::Formatter<W>) -> fmt::Result {
+        match self {
+            Fault::Path(fault) => write!(f, "{fault}"),
+            Fault::NoNode(followed) => write!(f, "{} {followed}", self.number()),
+            Fault::Nodes(fault) | Fault::Values(fault) => write!(f, "{} {fault}", self.number()),
+            _ => write!(f, "{}", self.number()),
+        }
+    }
+}
+
+impl Error for Fault {}
 
 impl From<PathFault> for Fault {
     ghost from_gives = { λ e r. r ≡ Path e };

@@ -1,8 +1,6 @@
 // The path reader: every byte of a path is a child bit.
-ghost use Rattle.std.specs.Prelude.{◌≡◌, ◌≤◌, [], ◌∷◌, length, Some, None, MatchOption};
 ghost use Rattle.runs.specs.Calls.{Says};
-ghost use Rattle.runs.specs.Refusals.{refusal};
-ghost use Rattle.table_model.specs.Refusals.{bad_byte, bad_path};
+ghost use Rattle.table_model.specs.Refusals.{bad_path};
 ghost use Rattle.nodes.specs.Told.{told_path};
 
 use crate::fault::PathFault;
@@ -15,21 +13,8 @@ pub fn read_path(path: &[u8]) -> Result<(), PathFault>
     if path.len() > LONGEST_PATH {
         return Err(PathFault::TooLong);
     }
-    match first_above(path) {
-        Some(position) => Err(PathFault::Byte(position)),
+    match path.iter().position(|b| *b > 31) {
+        Some(position) => Err(PathFault::Byte(position as u32)),
         None => Ok(()),
     }
-}
-
-// The position of the first byte above 31.
-fn first_above(path: &[u8]) -> Option<u32>
-    requires { length path.now ≤ 25 }
-    ensures { MatchOption result (bad_byte 0 path.now ≡ None) (λ i. bad_byte 0 path.now ≡ Some (refusal 2 (i ∷ []))) }
-{
-    for (i, b) in path.iter().enumerate() {
-        if *b > 31 {
-            return Some(i as u32);
-        }
-    }
-    None
 }

@@ -1,32 +1,32 @@
--- A path read byte by byte: the steps of the reader's loop.
-use Rattle.std.proofs.Common.{◌≡◌, ℕ, ◌+◌, ◌<◌, ◌≤◌, ltb, [], ◌∷◌, length, get_or, drop, Some, None, sym, refl, ap, ◌∙◌, inl, inr}
-use Rattle.std.proofs.lemmas.List.{drop_more, drop_all}
+-- A path read byte by byte.
+use Rattle.std.proofs.Common.{◌≡◌, ℕ, ◌+◌, ◌≤◌, Bool, true, false, cond, ltb, Option, [], ◌∷◌, length, Some, None, sym, refl, ap, ◌∙◌, inl, inr}
+use Rattle.std.specs.List.{position, position_from}
+use Rattle.std.proofs.lemmas.Iterator.Adapters.{position_from-zero}
 use Rattle.std.proofs.lemmas.Bool.{cases_lt, cond-true, cond-false, lt-ltb, le-ltb}
 use Rattle.runs.proofs.Shifts.{never}
-use Rattle.runs.specs.Refusals.{refusal}
+use Rattle.runs.specs.Refusals.{refusal, Grant}
 use Rattle.table_model.specs.Tree.{Path}
 use Rattle.table_model.specs.Refusals.{bad_byte, bad_path}
 
-bad_first : (i b : ℕ) (p : Path) → 31 < b → bad_byte i (b ∷ p) ≡ Some (refusal 2 (i ∷ []))
+-- what is told of the position of the first byte above 31
+abbrev pub told_at : Option ℕ → Grant
+told_at None = None
+told_at (Some i) = Some (refusal 2 (i ∷ []))
+
+either : (t : Bool) (x y : Option ℕ) → cond t (told_at x) (told_at y) ≡ told_at (cond t x y)
+either true x y = refl
+either false x y = refl
+
+bad_from : (i : ℕ) (p : Path) → bad_byte i p ≡ told_at (position_from (λ b. ltb 31 b) i p)
 unfolding bad_byte
-bad_first i b p h = cond-true (ltb 31 b) (Some (refusal 2 (i ∷ []))) (bad_byte (i + 1) p) (lt-ltb 31 b h)
+bad_from i [] = refl
+bad_from i (b ∷ p) = ap (cond (ltb 31 b) (told_at (Some i))) (bad_from (i + 1) p) ∙ either (ltb 31 b) (Some i) (position_from (λ c. ltb 31 c) (i + 1) p)
 
-good_first : (i b : ℕ) (p : Path) → b ≤ 31 → bad_byte i (b ∷ p) ≡ bad_byte (i + 1) p
-unfolding bad_byte
-good_first i b p h = cond-false (ltb 31 b) (Some (refusal 2 (i ∷ []))) (bad_byte (i + 1) p) (le-ltb 31 b h)
-
-no_byte : (i : ℕ) → bad_byte i [] ≡ None
-unfolding bad_byte
-no_byte i = refl
-
-pub byte_next : (p : Path) (i : ℕ) → i < length p → get_or p i 0 ≤ 31 → bad_byte (i + 1) (drop (i + 1) p) ≡ bad_byte i (drop i p)
-byte_next p i l h = sym (ap (bad_byte i) (drop_more p i 0 l) ∙ good_first i (get_or p i 0) (drop (i + 1) p) h)
-
-pub byte_bad : (p : Path) (i : ℕ) → i < length p → 31 < get_or p i 0 → bad_byte i (drop i p) ≡ bad_byte 0 p → bad_byte 0 p ≡ Some (refusal 2 (i ∷ []))
-byte_bad p i l h e = sym e ∙ ap (bad_byte i) (drop_more p i 0 l) ∙ bad_first i (get_or p i 0) (drop (i + 1) p) h
-
-pub bytes_good : (p : Path) (i : ℕ) → length p ≤ i → bad_byte i (drop i p) ≡ bad_byte 0 p → bad_byte 0 p ≡ None
-bytes_good p i l e = sym e ∙ ap (bad_byte i) (drop_all i p l) ∙ no_byte i
+-- a path that is not too long is told by that position
+pub bad_at : (p : Path) → length p ≤ 25 → bad_path p ≡ told_at (position (λ b. ltb 31 b) p)
+bad_at p l =
+    cond-false (ltb 25 (length p)) (Some (refusal 1 [])) (bad_byte 0 p) (le-ltb 25 (length p) l) ∙ bad_from 0 p
+    ∙ sym (ap told_at (position_from-zero (λ b. ltb 31 b) p))
 
 -- a path that reads well is at most 25 long
 pub reads_short : (p : Path) → bad_path p ≡ None → length p ≤ 25
