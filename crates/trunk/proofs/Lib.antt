@@ -1,2 +1,2 @@
-pub mod Seen
 pub mod Arriving
+pub mod Granted

@@ -1,10 +1,9 @@
--- What each call on a table promises.
+-- What each call on a table promises. A question changes nothing, and promises its answer alone.
 use Rattle.std.specs.Prelude.{◌≡◌, ℕ, true, false, [], ◌∷◌, ◌++◌, Some, None, Result}
 use Rattle.runs.specs.Calls.{Tells, moved_on}
 use Rattle.runs.specs.Refusals.{Refusal, Grant}
 use Rattle.runs.specs.declared.entry.NodeRow.{NodeRow}
-use Rattle.runs.specs.declared.index.NodeIndex.{NodeIndex}
-use Rattle.runs.specs.declared.store.RunStore.{Ghosts}
+use Rattle.runs.specs.declared.store.Runs.{Ghosts}
 use Rattle.table_model.specs.Tree.{Path, Tree, with_val, with_path}
 use Rattle.table_model.specs.Table.{find}
 use Rattle.table_model.specs.Laws.{Shown}
@@ -15,13 +14,7 @@ use Rattle.nodes.specs.declared.fault.Fault.{Fault}
 use Rattle.trunk.specs.declared.Trunk.{Trunk}
 use Rattle.trunk.specs.Meaning.{states, tree, Sound, Untouched}
 
-module _ {E Ix N V : Type 0} (n : Ghosts N NodeRow NodeIndex) (v : Ghosts V E Ix) where
-  -- A question is refused as `why` says, or P holds of its answer; nothing is changed.
-  pub record Asked {X : Type 0} (t : Trunk N V) (why : Grant) (P : X → Type 0) (r : Result X Fault) (after : Trunk N V) : Type 0 where
-    pub sound : Sound n v after
-    pub answer : Tells told_fault r why P
-    pub untouched : Untouched n v t after
-
+module _ {E In Ix N V : Type 0} (n : Ghosts N NodeRow In) (v : Ghosts V E Ix) where
   -- A call is refused as `why` says, and then nothing is changed; or P holds of its answer, and it leads to the states `to` and to the tree u.
   pub record Done {X : Type 0} (t : Trunk N V) (why : Grant) (P : X → Type 0) (to : States n.State v.State) (u : Tree E) (r : Result X Fault) (after : Trunk N V) : Type 0 where
     pub sound : Sound n v after
@@ -31,16 +24,16 @@ module _ {E Ix N V : Type 0} (n : Ghosts N NodeRow NodeIndex) (v : Ghosts V E Ix
     pub untouched : (f : Refusal) → why ≡ Some f → Untouched n v t after
 
   -- get: the value at a path and bit
-  abbrev pub Gets : Trunk N V → Path → ℕ → Result E Fault → Trunk N V → Type 0
-  Gets t p b = Asked t (get_no n.model v.model (states n v t) p b) (λ x. (tree n v t).val p b ≡ Some x)
+  abbrev pub Gets : Trunk N V → Path → ℕ → Result E Fault → Type 0
+  Gets t p b r = Tells told_fault r (get_no n.model v.model (states n v t) p b) (λ x. (tree n v t).val p b ≡ Some x)
 
   -- show: a node's record; its bitmaps are the tree's, its indexes name the node's two runs
   pub record Displayed (t : States n.State v.State) (p : Path) (r : NodeRow) : Type 0 where
     pub found : find (n.model.live t.nodes) t.root p ≡ Some r
     pub shown : Shown (n.model.live t.nodes) (v.model.live t.vals) t.root p r
 
-  abbrev pub Shows : Trunk N V → Path → Result NodeRow Fault → Trunk N V → Type 0
-  Shows t p = Asked t (show_no n.model v.model (states n v t) p) (Displayed (states n v t) p)
+  abbrev pub Shows : Trunk N V → Path → Result NodeRow Fault → Type 0
+  Shows t p r = Tells told_fault r (show_no n.model v.model (states n v t) p) (Displayed (states n v t) p)
 
   -- swap: the value x for the one that is there, which is handed back
   abbrev pub Swaps : Trunk N V → Path → ℕ → E → Result E Fault → Trunk N V → Type 0

@@ -6,7 +6,6 @@ ghost use Rattle.trunk.specs.Meaning.{states, Sound};
 ghost use Rattle.trunk.specs.Steps.{Judged};
 
 use crate::Trunk;
-use crate::run::{ask_less, ask_more};
 use crate::spot::Spot;
 use bitmap::{Bit, is_set};
 use nodes::fault::Fault;
@@ -28,12 +27,11 @@ fn at_depth(path: &[u8]) -> bool
 
 impl<E: Entry, N: RunStore<Item = NodeRow>, V: RunStore<Item = E>> Trunk<N, V> {
     // A set data bit.
-    pub fn may_get(&mut self, path: &[u8], bit: Bit) -> Result<Spot, Fault>
-        requires { Sound N.RunStore V.RunStore self.old }
-        ensures { Judged N.RunStore V.RunStore self.old
-            (get_no N.RunStore.model V.RunStore.model (states N.RunStore V.RunStore self.old) path.now bit.number)
-            (λ st. MayGet N.RunStore.model V.RunStore.model st path.now bit.number)
-            result self.new }
+    pub fn may_get(&self, path: &[u8], bit: Bit) -> Result<Spot, Fault>
+        requires { Sound N.Runs V.Runs self.now }
+        ensures { Judged (get_no N.Runs.model V.Runs.model (states N.Runs V.Runs self.now) path.now bit.number)
+            (MayGet N.Runs.model V.Runs.model (states N.Runs V.Runs self.now) path.now bit.number)
+            result }
     {
         let spot = self.reach(path, bit, DATA_BITS)?;
         if !is_set(spot.record.data_bitmap, bit) {
@@ -43,45 +41,40 @@ impl<E: Entry, N: RunStore<Item = NodeRow>, V: RunStore<Item = E>> Trunk<N, V> {
     }
 
     // A clear data bit, and room for its value.
-    pub fn may_put(&mut self, path: &[u8], bit: Bit) -> Result<Spot, Fault>
-        requires { Sound N.RunStore V.RunStore self.old }
-        ensures { Judged N.RunStore V.RunStore self.old
-            (put_no N.RunStore.model V.RunStore.model (states N.RunStore V.RunStore self.old) path.now bit.number)
-            (λ st. MayPut N.RunStore.model V.RunStore.model st path.now bit.number)
-            result self.new }
+    pub fn may_put(&self, path: &[u8], bit: Bit) -> Result<Spot, Fault>
+        requires { Sound N.Runs V.Runs self.now }
+        ensures { Judged (put_no N.Runs.model V.Runs.model (states N.Runs V.Runs self.now) path.now bit.number)
+            (MayPut N.Runs.model V.Runs.model (states N.Runs V.Runs self.now) path.now bit.number)
+            result }
     {
         let spot = self.reach(path, bit, DATA_BITS)?;
         if is_set(spot.record.data_bitmap, bit) {
             return Err(Fault::Taken);
         }
-        match ask_more(&mut self.values, spot.record.data_bitmap) {
-            Ok(_) => Ok(spot),
-            Err(f) => Err(Fault::Values(f)),
-        }
+        let data = spot.record.data();
+        data.may_grow(&self.values).map_err(Fault::Values)?;
+        Ok(spot)
     }
 
     // A set data bit, whose value the store lets go.
-    pub fn may_take(&mut self, path: &[u8], bit: Bit) -> Result<Spot, Fault>
-        requires { Sound N.RunStore V.RunStore self.old }
-        ensures { Judged N.RunStore V.RunStore self.old
-            (take_no N.RunStore.model V.RunStore.model (states N.RunStore V.RunStore self.old) path.now bit.number)
-            (λ st. MayTake N.RunStore.model V.RunStore.model st path.now bit.number)
-            result self.new }
+    pub fn may_take(&self, path: &[u8], bit: Bit) -> Result<Spot, Fault>
+        requires { Sound N.Runs V.Runs self.now }
+        ensures { Judged (take_no N.Runs.model V.Runs.model (states N.Runs V.Runs self.now) path.now bit.number)
+            (MayTake N.Runs.model V.Runs.model (states N.Runs V.Runs self.now) path.now bit.number)
+            result }
     {
         let spot = self.may_get(path, bit)?;
-        match ask_less(&mut self.values, spot.record.data_bitmap) {
-            Ok(_) => Ok(spot),
-            Err(f) => Err(Fault::Values(f)),
-        }
+        let data = spot.record.data();
+        data.may_shrink(&self.values).map_err(Fault::Values)?;
+        Ok(spot)
     }
 
     // A clear child bit, not too deep, and room for the child's record.
-    pub fn may_add(&mut self, path: &[u8], bit: Bit) -> Result<Spot, Fault>
-        requires { Sound N.RunStore V.RunStore self.old }
-        ensures { Judged N.RunStore V.RunStore self.old
-            (add_no N.RunStore.model V.RunStore.model (states N.RunStore V.RunStore self.old) path.now bit.number)
-            (λ st. MayAdd N.RunStore.model V.RunStore.model st path.now bit.number)
-            result self.new }
+    pub fn may_add(&self, path: &[u8], bit: Bit) -> Result<Spot, Fault>
+        requires { Sound N.Runs V.Runs self.now }
+        ensures { Judged (add_no N.Runs.model V.Runs.model (states N.Runs V.Runs self.now) path.now bit.number)
+            (MayAdd N.Runs.model V.Runs.model (states N.Runs V.Runs self.now) path.now bit.number)
+            result }
     {
         let spot = self.reach(path, bit, CHILD_BITS)?;
         if at_depth(path) {
@@ -90,45 +83,37 @@ impl<E: Entry, N: RunStore<Item = NodeRow>, V: RunStore<Item = E>> Trunk<N, V> {
         if is_set(spot.record.child_bitmap, bit) {
             return Err(Fault::Taken);
         }
-        match ask_more(&mut self.nodes, spot.record.child_bitmap) {
-            Ok(_) => Ok(spot),
-            Err(f) => Err(Fault::Nodes(f)),
-        }
+        let children = spot.record.children();
+        children.may_grow(&self.nodes).map_err(Fault::Nodes)?;
+        Ok(spot)
     }
 
     // As for a bare child, and room for its first value.
-    pub fn may_plant(&mut self, path: &[u8], bit: Bit) -> Result<Spot, Fault>
-        requires { Sound N.RunStore V.RunStore self.old }
-        ensures { Judged N.RunStore V.RunStore self.old
-            (plant_no N.RunStore.model V.RunStore.model (states N.RunStore V.RunStore self.old) path.now bit.number)
-            (λ st. MayPlant N.RunStore.model V.RunStore.model st path.now bit.number)
-            result self.new }
+    pub fn may_plant(&self, path: &[u8], bit: Bit) -> Result<Spot, Fault>
+        requires { Sound N.Runs V.Runs self.now }
+        ensures { Judged (plant_no N.Runs.model V.Runs.model (states N.Runs V.Runs self.now) path.now bit.number)
+            (MayPlant N.Runs.model V.Runs.model (states N.Runs V.Runs self.now) path.now bit.number)
+            result }
     {
         let spot = self.may_add(path, bit)?;
-        match self.values.grow(0) {
-            Ok(_) => Ok(spot),
-            Err(f) => Err(Fault::Values(f)),
-        }
+        self.values.grow(0).map_err(Fault::Values)?;
+        Ok(spot)
     }
 
     // A bare child, whose record the store lets go.
-    pub fn may_drop(&mut self, path: &[u8], bit: Bit) -> Result<Spot, Fault>
-        requires { Sound N.RunStore V.RunStore self.old }
-        ensures { Judged N.RunStore V.RunStore self.old
-            (drop_no N.RunStore.model V.RunStore.model (states N.RunStore V.RunStore self.old) path.now bit.number)
-            (λ st. MayDrop N.RunStore.model V.RunStore.model st path.now bit.number)
-            result self.new }
+    pub fn may_drop(&self, path: &[u8], bit: Bit) -> Result<Spot, Fault>
+        requires { Sound N.Runs V.Runs self.now }
+        ensures { Judged (drop_no N.Runs.model V.Runs.model (states N.Runs V.Runs self.now) path.now bit.number)
+            (MayDrop N.Runs.model V.Runs.model (states N.Runs V.Runs self.now) path.now bit.number)
+            result }
     {
         let spot = self.reach(path, bit, CHILD_BITS)?;
-        let Some(child) = self.child(spot, bit) else {
-            return Err(Fault::Missing);
-        };
+        let child = self.child(spot, bit).ok_or(Fault::Missing)?;
         if child.record.data_bitmap != 0 || child.record.child_bitmap != 0 {
             return Err(Fault::NotBare);
         }
-        match ask_less(&mut self.nodes, spot.record.child_bitmap) {
-            Ok(_) => Ok(spot),
-            Err(f) => Err(Fault::Nodes(f)),
-        }
+        let children = spot.record.children();
+        children.may_shrink(&self.nodes).map_err(Fault::Nodes)?;
+        Ok(spot)
     }
 }

@@ -4,7 +4,6 @@
 
 pub mod descent;
 pub mod judge;
-pub mod run;
 pub mod spot;
 pub mod steps;
 

@@ -3,15 +3,16 @@ use bitmap::Slot;
 use nodes::record::NodeRecord;
 use runs::index::NodeIndex;
 
+// An entry of the parent's run of children.
 #[derive(Clone, Copy)]
-pub enum Where {
-    Root,
-    // an entry of the parent's run of children
-    Entry(NodeIndex, Slot),
+pub struct Place {
+    pub run: NodeIndex,
+    pub slot: Slot,
 }
 
+// The root stands in no run, and so has no place.
 #[derive(Clone, Copy)]
 pub struct Spot {
-    pub place: Where,
+    pub place: Option<Place>,
     pub record: NodeRecord,
 }

@@ -1,44 +1,33 @@
-use Rattle.std.proofs.Common.{Some, sym, ap, ◌∙◌}
 use Rattle.nodes.specs.Records.{row_of}
+use Rattle.trunk.specs.Steps.{place_of}
+use Rattle.std.proofs.Common.{rules, ◌≡◌, Some, sym, ap, ◌∙◌}
+use Rattle.table_model.specs.Table.{Passes}
 use Rattle.runs.specs.declared.entry.NodeRow.{NodeRow}
 use Rattle.table_model.proofs.Nodes.{child_inside, child_read, child_passes, child_clear}
 use Rattle.table_model.proofs.States.{entry_yes}
-use Rattle.trunk.specs.Steps.{place_of}
-use Rattle.trunk.proofs.Seen.{untouched_same, asked_nodes}
+use Rattle.trunk.proofs.Granted.{granted_ok, answered}
 use Rattle.trunk.proofs.Trunk.child.Goals as goal
 
 pub returns-then-not-is_set : goal.returns-then-not-is_set
-returns-then-not-is_set g c = record {
-  sound = c.requires.sound;
-  untouched = untouched_same g.N.RunStore g.V.RunStore c.args.self.now;
-  answer = child_clear (g.N.RunStore.model.live (g.N.RunStore.state c.args.self.now.nodes)) (row_of c.args.spot.record) c.args.bit.number (sym c.is_set.ensures ∙ c.if-not-is_set.true);
-}
+returns-then-not-is_set g c = child_clear (g.N.Runs.model.live (g.N.Runs.state c.args.self.now.nodes)) (row_of c.args.spot.record) c.args.bit.number (sym c.is_set.ensures ∙ c.if-not-is_set.true)
 
-pub entry_at-row-requires : goal.entry_at-row-requires
-entry_at-row-requires g c =
+pub unwrap-row-requires : goal.unwrap-row-requires
+unwrap-row-requires g c =
     let s = c.args.spot in
-    record {
-      sound = c.requires.sound.nodes;
-      granted = entry_yes g.N.RunStore.model _ g.N.RunStore.Valid g.N.RunStore.lawful _ _ _
-          (child_inside _ _ (row_of c.args.self.now.root) c.requires.sound.agrees c.requires.node.0 (place_of s.place) (row_of s.record) c.requires.node.1 c.args.bit.number (sym c.is_set.ensures ∙ c.if-not-is_set.false));
-    }
+    granted_ok _ _ _ c.entry.result c.entry.ensures (rw (c.children.ensures.bitmap, c.children.ensures.index) (entry_yes g.N.Runs.model _ g.N.Runs.Valid g.met.N.Runs.lawful _ _ _
+    (child_inside _ _ (row_of c.args.self.now.root) c.requires.sound c.requires.node.0 (place_of s.place) (row_of s.record) c.requires.node.1 c.args.bit.number (sym c.is_set.ensures ∙ c.if-not-is_set.false))))
 
-pub unreachable-requires : goal.unreachable-requires
-unreachable-requires g c =
+pub unwrap-requires : goal.unwrap-requires
+unwrap-requires g c =
     let s = c.args.spot in
-    let k = child_passes _ _ (row_of c.args.self.now.root) c.requires.sound.agrees c.requires.node.0 (place_of s.place) (row_of s.record) c.requires.node.1 c.args.bit.number c.entry_at-row.result (sym c.is_set.ensures ∙ c.if-not-is_set.false) c.entry_at-row.ensures.answer in
-    c.in_default.ensures k
+    let there = rw (c.children.ensures.bitmap, c.children.ensures.index) at (answered _ _ _ c.entry.result c.unwrap-row.result c.unwrap-row.ensures c.entry.ensures) in
+    let ok : Passes c.unwrap-row.result = child_passes _ _ (row_of c.args.self.now.root) c.requires.sound c.requires.node.0 (place_of s.place) (row_of s.record) c.requires.node.1 c.args.bit.number c.unwrap-row.result (sym c.is_set.ensures ∙ c.if-not-is_set.false) there in
+    search rules
 
 pub returns : goal.returns
 returns g c =
     let s = c.args.spot in
-    let u = asked_nodes g.N.RunStore g.V.RunStore c.args.self.now c.args.self.now c.entry_at-row.new.store c.requires.sound (untouched_same g.N.RunStore g.V.RunStore c.args.self.now) c.entry_at-row.ensures.asked in
-    let k = child_read _ _ (row_of c.args.self.now.root) c.requires.sound.agrees c.requires.node.0 (place_of s.place) (row_of s.record) c.requires.node.1 c.args.bit.number c.entry_at-row.result (sym c.is_set.ensures ∙ c.if-not-is_set.false) c.entry_at-row.ensures.answer in
-    record {
-      sound = u.0;
-      untouched = u.1;
-      answer = (
-        k ∙ ap (λ (x : NodeRow). Some x) (sym c.in-Some.ensures.1),
-        c.child_place.ensures,
-      );
-    }
+    let there = rw (c.children.ensures.bitmap, c.children.ensures.index) at (answered _ _ _ c.entry.result c.unwrap-row.result c.unwrap-row.ensures c.entry.ensures) in
+    let k = child_read _ _ (row_of c.args.self.now.root) c.requires.sound c.requires.node.0 (place_of s.place) (row_of s.record) c.requires.node.1 c.args.bit.number c.unwrap-row.result (sym c.is_set.ensures ∙ c.if-not-is_set.false) there in
+    let same : row_of c.unwrap.result ≡ c.unwrap-row.result = search rules in
+    (k ∙ ap (λ (x : NodeRow). Some x) (sym same), c.child_place.ensures)

@@ -1,59 +1,43 @@
 use Rattle.nodes.specs.Records.{row_of}
-use Rattle.table_model.proofs.Judging.{put_taken, put_clear, put_may}
-use Rattle.table_model.specs.Calls.{put_no}
-use Rattle.table_model.specs.Judged.{MayPut}
-use Rattle.table_model.specs.Refusals.{inside}
-use Rattle.table_model.specs.States.{Table as States}
-use Rattle.trunk.proofs.Seen.{asked_values, both_later}
 use Rattle.trunk.specs.Meaning.{states}
 use Rattle.trunk.specs.Steps.{place_of}
-use Rattle.std.proofs.Common.{sym, ap, ◌∙◌}
+use Rattle.std.proofs.Common.{rules, ◌≡◌, None, sym, ◌∙◌}
+use Rattle.runs.specs.Runs.{grows}
+use Rattle.bitmap.specs.Ranks.{rank}
+use Rattle.table_model.proofs.Judging.{put_taken, put_clear, put_may}
+use Rattle.table_model.specs.Calls.{put_no}
+use Rattle.table_model.specs.Refusals.{inside}
 use Rattle.trunk.proofs.Trunk.may_put.Goals as goal
 
 pub returns-then-is_set : goal.returns-then-is_set
 returns-then-is_set g c =
-    let n = g.N.RunStore in
-    let v = g.V.RunStore in
+    let n = g.N.Runs in
+    let v = g.V.Runs in
     let t = c.args.self.now in
     let p = c.args.path.now in
     let b = c.args.bit.number in
     let s = c.in_ok-spot.spot in
-    let j = c.in_ok-spot.ensures in
-    record {
-      sound = j.sound;
-      untouched = j.untouched;
-      answer = put_taken n.model v.model (states n v t) c.requires.agrees p b (place_of s.place) (row_of s.record) j.answer.0 (sym c.is_set.ensures ∙ c.if-is_set.true);
-    }
+    put_taken n.model v.model (states n v t) c.requires p b (place_of s.place) (row_of s.record) c.in_ok-spot.ensures (sym c.is_set.ensures ∙ c.if-is_set.true)
 
-pub returns-in-Ok : goal.returns-in-Ok
-returns-in-Ok g c =
-    let n = g.N.RunStore in
-    let v = g.V.RunStore in
+pub returns-in_err-map_err : goal.returns-in_err-map_err
+returns-in_err-map_err g c =
+    let n = g.N.Runs in
+    let v = g.V.Runs in
     let t = c.args.self.now in
     let p = c.args.path.now in
     let b = c.args.bit.number in
-    let t1 = c.reach.new.self in
     let s = c.in_ok-spot.spot in
-    let j = c.in_ok-spot.ensures in
-    let u = asked_values n v t t1 c.ask_more.new.store j.sound j.untouched c.ask_more.ensures.asked in
-    let m = put_may n.model v.model (states n v t1) j.sound.agrees p b (place_of s.place) (row_of s.record) j.answer.1 (sym c.is_set.ensures ∙ c.if-is_set.false) c.in-Ok.ensures.answer in
-    record { sound = u.0; untouched = u.1; answer = both_later n v t t1 _ j.untouched u.1 (λ st. MayPut n.model v.model st p b (place_of s.place) (row_of s.record)) m }
+    let why : put_no n.model v.model (states n v t) p b ≡ inside 10 (grows v.model (v.state t.values) (rank c.data-data.result.bitmap 32)) =
+    rw c.data-data.ensures.bitmap (put_clear n.model v.model (states n v t) c.requires p b (place_of s.place) (row_of s.record) c.in_ok-spot.ensures (sym c.is_set.ensures ∙ c.if-is_set.false)) in
+    search (rules, why)
 
-pub returns-in-Err : goal.returns-in-Err
-returns-in-Err g c =
-    let n = g.N.RunStore in
-    let v = g.V.RunStore in
+pub returns : goal.returns
+returns g c =
+    let n = g.N.Runs in
+    let v = g.V.Runs in
     let t = c.args.self.now in
     let p = c.args.path.now in
     let b = c.args.bit.number in
-    let t1 = c.reach.new.self in
     let s = c.in_ok-spot.spot in
-    let j = c.in_ok-spot.ensures in
-    let u = asked_values n v t t1 c.ask_more.new.store j.sound j.untouched c.ask_more.ensures.asked in
-    record {
-      sound = u.0;
-      untouched = u.1;
-      answer = ap (λ (st : States g.N.RunStore.State g.V.RunStore.State). put_no g.N.RunStore.model g.V.RunStore.model st c.args.path.now c.args.bit.number) (sym j.untouched.states)
-          ∙ put_clear n.model v.model (states n v t1) j.sound.agrees p b (place_of s.place) (row_of s.record) j.answer.1 (sym c.is_set.ensures ∙ c.if-is_set.false)
-          ∙ ap (inside 10) c.in-Err.ensures.answer;
-    }
+    let yes : grows v.model (v.state t.values) (rank c.data-data.result.bitmap 32) ≡ None = search rules in
+    put_may n.model v.model (states n v t) c.requires p b (place_of s.place) (row_of s.record) c.in_ok-spot.ensures (sym c.is_set.ensures ∙ c.if-is_set.false) (rw c.data-data.ensures.bitmap at yes)

@@ -1,73 +1,69 @@
-use Rattle.bitmap.specs.Ranks.{rank}
 use Rattle.nodes.specs.Records.{row_of}
-use Rattle.runs.specs.Runs.{grows}
-use Rattle.runs.specs.declared.entry.NodeRow.{NodeRow}
-use Rattle.std.proofs.Common.{true, [], ◌∷◌, ◌++◌, Some, sym, refl, ap, ◌∙◌, subst}
-use Rattle.table_model.proofs.Doing.{child_granted, parent_granted, add_arrives, new_child_granted, plant_arrives, root_there}
-use Rattle.table_model.proofs.Written.{plant_is}
-use Rattle.table_model.specs.Calls.{plant_no, plant_to}
-use Rattle.table_model.specs.Judged.{no_growth, no_write}
-use Rattle.table_model.specs.States.{Place, Table as States, tree_in, add_at, put_at}
-use Rattle.table_model.specs.Table.{Passes}
-use Rattle.table_model.specs.Tree.{with_val, with_path}
-use Rattle.trunk.proofs.Arriving.{valid, done}
 use Rattle.trunk.specs.Meaning.{states}
 use Rattle.trunk.specs.Steps.{place_of}
+use Rattle.std.proofs.Common.{refl, ap, sym, ◌∙◌, subst}
+use Rattle.runs.specs.Runs.{grows}
+use Rattle.runs.specs.declared.entry.NodeRow.{NodeRow}
+use Rattle.bitmap.specs.Ranks.{rank}
+use Rattle.table_model.proofs.Doing.{child_granted, parent_granted, new_child_granted, add_arrives, plant_arrives, root_there}
+use Rattle.table_model.proofs.Written.{plant_is}
+use Rattle.table_model.specs.Judged.{no_growth, no_write}
+use Rattle.table_model.specs.States.{Place, Table as States, add_at, put_at}
+use Rattle.table_model.specs.Table.{Passes}
+use Rattle.trunk.proofs.Arriving.{valid, done}
 use Rattle.trunk.proofs.Trunk.plant_at.Goals as goal
 
 pub grow_child-child-requires : goal.grow_child-child-requires
 grow_child-child-requires g c =
-    let n = g.N.RunStore in
-    let v = g.V.RunStore in
+    let n = g.N.Runs in
+    let v = g.V.Runs in
     let t = c.args.self.now in
     let s = c.args.spot in
     let b = c.args.bit.number in
+    let sd = valid n v g.met.N.Runs.valid g.met.V.Runs.valid t c.requires.sound in
     let m = c.requires.may.1.add in
     record {
-      nodes = c.requires.sound.nodes;
-      growth = child_granted n.model v.model _ _ _ _ n.lawful v.lawful (states n v t) (valid n v t c.requires.sound) c.requires.may.0 b (place_of s.place) (row_of s.record) m;
-      write = parent_granted n.model v.model _ _ _ _ n.lawful v.lawful (states n v t) (valid n v t c.requires.sound) c.requires.may.0 b (place_of s.place) (row_of s.record) m;
-      passes = root_there n.model v.model _ _ _ _ _ _ (add_arrives n.model v.model _ _ _ _ n.lawful v.lawful (states n v t) (valid n v t c.requires.sound) c.requires.may.0 b (place_of s.place) (row_of s.record) m);
+      growth = child_granted n.model v.model _ _ _ _ g.met.N.Runs.lawful g.met.V.Runs.lawful (states n v t) sd c.requires.may.0 b (place_of s.place) (row_of s.record) m;
+      write = parent_granted n.model v.model _ _ _ _ g.met.N.Runs.lawful g.met.V.Runs.lawful (states n v t) sd c.requires.may.0 b (place_of s.place) (row_of s.record) m;
+      passes = root_there n.model v.model _ _ _ _ _ _ (add_arrives n.model v.model _ _ _ _ g.met.N.Runs.lawful g.met.V.Runs.lawful (states n v t) sd c.requires.may.0 b (place_of s.place) (row_of s.record) m);
     }
 
 pub set_value-requires : goal.set_value-requires
 set_value-requires g c =
-    let n = g.N.RunStore in
-    let v = g.V.RunStore in
+    let n = g.N.Runs in
+    let v = g.V.Runs in
     let t = c.args.self.now in
     let s = c.args.spot in
     let b = c.args.bit.number in
+    let sd = valid n v g.met.N.Runs.valid g.met.V.Runs.valid t c.requires.sound in
     let m = c.requires.may.1 in
     let x = c.args.value in
     let t1 = c.grow_child-child.new.self in
     let kid = c.grow_child-child.result in
     let new = c.grow_child-child.ensures in
     record {
-      nodes = new.nodes;
-      values = subst g.V.RunStore.sound (sym new.values) c.requires.sound.values;
-      growth = ap (λ (r : NodeRow). no_growth g.V.RunStore.model (g.V.RunStore.state c.grow_child-child.new.self.values) r.data_bitmap r.data_index (rank r.data_bitmap 0)) new.row
-          ∙ ap (λ (y : g.row.V.Denot). grows g.V.RunStore.model (g.V.RunStore.state y) 0) new.values ∙ m.granted;
-      write = ap (λ (st : States g.N.RunStore.State g.V.RunStore.State). no_write g.N.RunStore.model st.nodes (place_of c.grow_child-child.result.place)) new.after
-          ∙ ap (λ (pl : Place). no_write g.N.RunStore.model (add_at g.N.RunStore.model g.V.RunStore.model (states g.N.RunStore g.V.RunStore c.args.self.now) (place_of c.args.spot.place) (row_of c.args.spot.record) c.args.bit.number).nodes pl) new.place
-          ∙ new_child_granted n.model v.model _ _ _ _ n.lawful v.lawful (states n v t) (valid n v t c.requires.sound) c.requires.may.0 b (place_of s.place) (row_of s.record) m.add;
-      passes = subst Passes (sym (ap (λ (st : States g.N.RunStore.State g.V.RunStore.State). st.root) (plant_is n.model v.model (states n v t) (place_of s.place) (row_of s.record) b x (states n v t1) (put_at n.model v.model (states n v t1) (place_of kid.place) (row_of kid.record) 0 x) (place_of kid.place) (row_of kid.record) new.after new.place new.row refl)))
-          (root_there n.model v.model _ _ _ _ _ _ (plant_arrives n.model v.model _ _ _ _ n.lawful v.lawful (states n v t) (valid n v t c.requires.sound) c.requires.may.0 b (place_of s.place) (row_of s.record) x m));
+      growth = ap (λ (r : NodeRow). no_growth g.V.Runs.model (g.V.Runs.state c.grow_child-child.new.self.values) r.data_bitmap r.data_index (rank r.data_bitmap 0)) new.row
+          ∙ ap (λ (y : g.row.V.Denot). grows g.V.Runs.model (g.V.Runs.state y) 0) new.values ∙ m.granted;
+      write = ap (λ (st : States g.N.Runs.State g.V.Runs.State). no_write g.N.Runs.model st.nodes (place_of c.grow_child-child.result.place)) new.after
+          ∙ ap (λ (pl : Place). no_write g.N.Runs.model (add_at g.N.Runs.model g.V.Runs.model (states g.N.Runs g.V.Runs c.args.self.now) (place_of c.args.spot.place) (row_of c.args.spot.record) c.args.bit.number).nodes pl) new.place
+          ∙ new_child_granted n.model v.model _ _ _ _ g.met.N.Runs.lawful g.met.V.Runs.lawful (states n v t) sd c.requires.may.0 b (place_of s.place) (row_of s.record) m.add;
+      passes = subst Passes (sym (ap (λ (st : States g.N.Runs.State g.V.Runs.State). st.root) (plant_is n.model v.model (states n v t) (place_of s.place) (row_of s.record) b x (states n v t1) (put_at n.model v.model (states n v t1) (place_of kid.place) (row_of kid.record) 0 x) (place_of kid.place) (row_of kid.record) new.after new.place new.row refl)))
+          (root_there n.model v.model _ _ _ _ _ _ (plant_arrives n.model v.model _ _ _ _ g.met.N.Runs.lawful g.met.V.Runs.lawful (states n v t) sd c.requires.may.0 b (place_of s.place) (row_of s.record) x m));
     }
 
 pub returns : goal.returns
 returns g c p m =
-    let n = g.N.RunStore in
-    let v = g.V.RunStore in
+    let n = g.N.Runs in
+    let v = g.V.Runs in
     let t = c.args.self.now in
     let s = c.args.spot in
     let b = c.args.bit.number in
+    let sd = valid n v g.met.N.Runs.valid g.met.V.Runs.valid t c.requires.sound in
     let x = c.args.value in
     let t1 = c.grow_child-child.new.self in
     let kid = c.grow_child-child.result in
     let new = c.grow_child-child.ensures in
     let u = c.set_value.new.self in
-    done n v (λ st. plant_no n.model v.model st p b) (λ st _. Unit {0}) t u tt
-    (λ st. plant_to n.model v.model st p b x) (λ st. with_val (with_path (tree_in n.model v.model st) (p ++ b ∷ []) true) (p ++ b ∷ []) 0 (Some x)) _
-    c.set_value.ensures.nodes c.set_value.ensures.values
-    (plant_is n.model v.model (states n v t) (place_of s.place) (row_of s.record) b x (states n v t1) (states n v u) (place_of kid.place) (row_of kid.record) new.after new.place new.row c.set_value.ensures.after)
-    (plant_arrives n.model v.model _ _ _ _ n.lawful v.lawful (states n v t) (valid n v t c.requires.sound) p b (place_of s.place) (row_of s.record) x m) tt
+    done n v t u tt
+    (plant_is n.model v.model (states n v t) (place_of s.place) (row_of s.record) b x (states n v t1) (states n v u) (place_of kid.place) (row_of kid.record) new.after new.place new.row c.set_value.ensures)
+    (plant_arrives n.model v.model _ _ _ _ g.met.N.Runs.lawful g.met.V.Runs.lawful (states n v t) sd p b (place_of s.place) (row_of s.record) x m) tt
