@@ -13,6 +13,7 @@ pub mod Values
 pub mod Children
 pub mod Whole
 pub mod States
+pub mod Known
 pub mod Lawfully
 pub mod Reading
 pub mod Nodes
