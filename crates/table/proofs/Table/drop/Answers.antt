@@ -1,0 +1,18 @@
+use Rattle.std.proofs.Common.{rules, ◌≡◌, Err}
+use Rattle.table_model.proofs.Known.{known}
+use Rattle.trunk.proofs.Arriving.{refused}
+use Rattle.table.proofs.Table.drop.Goals as goal
+
+pub may_drop-requires : goal.may_drop-requires
+may_drop-requires g c = known _ _ _ c.args.self.now.agrees
+
+pub drop_at-requires-clause-sound : goal.drop_at-requires-clause-sound
+drop_at-requires-clause-sound g c = known _ _ _ c.args.self.now.agrees
+
+pub returns-in_err-spot : goal.returns-in_err-spot
+returns-in_err-spot g c =
+    let told : c.from_residual.result ≡ Err c.in_err-spot.field-0.0 = search rules in
+    refused _ _ c.args.self.now.trunk _ _ (known _ _ _ c.args.self.now.agrees) told c.in_err-spot.ensures
+
+pub invariant_of-self : goal.invariant_of-self
+invariant_of-self g c = record { agrees = ∣ (c.drop_at.ensures c.args.path.now c.in_ok-spot.ensures).sound ∣₁ }
