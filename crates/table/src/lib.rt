@@ -15,7 +15,7 @@ use trunk::Trunk;
 pub struct Table<N: RunStore<Item = NodeRow>, V: RunStore> {
     trunk: Trunk<N, V>,
     // the table agrees with its stores
-    ghost agrees: { ∥ Sound N.Runs V.Runs trunk ∥₁ },
+    ghost sound: { Sound N.Runs V.Runs trunk },
 }
 
 // 12: two stores that no table can start on, as they were.

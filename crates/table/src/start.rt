@@ -8,6 +8,9 @@ use runs::entry::{Entry, NodeRow};
 use runs::store::RunStore;
 use trunk::Trunk;
 
+// The number of the refusal.
+const NOT_STARTED: u32 = 12;
+
 // A table over two stores with no live run, which means the tree of the empty path; else both are handed back.
 pub fn start<E: Entry, N: RunStore<Item = NodeRow>, V: RunStore<Item = E>>(
     nodes: N,
@@ -31,7 +34,7 @@ impl<N, V> NotStarted<N, V> {
     pub fn number(&self) -> u32
         ensures { result ≡ 12 }
     {
-        12
+        NOT_STARTED
     }
 }
 

@@ -1,8 +1,8 @@
 -- Calls judged in the order of their refusals, from the record at the path and the answers of the stores.
-use Rattle.std.proofs.Common.{◌≡◌, ℕ, ◌<◌, ◌≤◌, Bool, true, false, not, leb, [], ◌∷◌, ◌++◌, length, Some, None, sym, refl, ap, ◌∙◌}
-use Rattle.std.proofs.lemmas.Bool.{lt-leb, le-leb}
+use Rattle.std.proofs.Common.{◌≡◌, ℕ, ◌<◌, Bool, true, false, not, leb, [], ◌∷◌, ◌++◌, length, Some, None, sym, refl, ap, ◌∙◌}
+use Rattle.std.proofs.lemmas.Bool.{lt-leb}
 use Rattle.bitmap.specs.Ranks.{is_set, rank}
-use Rattle.runs.specs.Refusals.{Grant, Refusal, refusal}
+use Rattle.runs.specs.Refusals.{Grant, refusal}
 use Rattle.runs.specs.Runs.{Model, grows, shrinks}
 use Rattle.runs.specs.declared.entry.NodeRow.{NodeRow}
 use Rattle.table_model.specs.Tree.{Path, Tree, followed}
@@ -10,7 +10,7 @@ use Rattle.table_model.specs.Table.{is_some, child, find, Agrees}
 use Rattle.table_model.specs.Refusals.{first, when, inside, bad_path, value_count, child_count, is_bare, no_node, no_path, no_place}
 use Rattle.table_model.specs.States.{Place, Table, tree_in}
 use Rattle.table_model.specs.Calls.{way, get_no, put_no, take_no, add_no, plant_no, drop_no}
-use Rattle.table_model.specs.Judged.{Reached, MayGet, MayPut, MayTake, MayAdd, MayPlant, MayDrop}
+use Rattle.table_model.specs.Judged.{Reached, MayGet, MayPut, MayTake, MayAdd, MayDrop}
 use Rattle.table_model.proofs.Nodes.{node_has, value_bit, child_bit, narrow, values_counted, children_counted, child_found, child_lost, bare_is, bare_not, bare_row_is}
 
 -- ---- refusals 1 to 4
@@ -18,9 +18,6 @@ use Rattle.table_model.proofs.Nodes.{node_has, value_bit, child_bit, narrow, val
 module _ {V : Type 0} (t : Tree V) (p : Path) where
   node_there : t.has p ≡ true → no_node t p ≡ None
   node_there h = ap (λ (x : Bool). when (not x) (refusal 4 (followed t p ∷ []))) h
-
-  pub path_refused : (f : Refusal) → bad_path p ≡ Some f → no_path t p ≡ Some f
-  path_refused f e = ap (λ (g : Grant). first g (no_node t p)) e
 
   pub path_node : bad_path p ≡ None → no_path t p ≡ no_node t p
   path_node good = ap (λ (g : Grant). first g (no_node t p)) good
@@ -32,16 +29,9 @@ module _ {V : Type 0} (t : Tree V) (p : Path) where
     after_path : Grant
     after_path = first (when (leb w b) (refusal 3 [])) (no_node t p)
 
-    pub place_refused : (f : Refusal) → bad_path p ≡ Some f → no_place t p b w ≡ Some f
-    unfolding after_path
-    place_refused f e = ap (λ (g : Grant). first g after_path) e
-
     place_bit : bad_path p ≡ None → (h : Bool) → leb w b ≡ h → no_place t p b w ≡ first (when h (refusal 3 [])) (no_node t p)
     unfolding after_path
     place_bit good h e = ap (λ (g : Grant). first g after_path) good ∙ ap (λ (x : Bool). first (when x (refusal 3 [])) (no_node t p)) e
-
-    pub bit_refused : bad_path p ≡ None → w ≤ b → no_place t p b w ≡ Some (refusal 3 [])
-    bit_refused good l = place_bit good true (le-leb w b l)
 
     pub place_node : bad_path p ≡ None → b < w → no_place t p b w ≡ no_node t p
     place_node good small = place_bit good false (lt-leb w b small)
@@ -108,14 +98,6 @@ module _ {V N S : Type 0} (mn : Model NodeRow N) (mv : Model V S) (t : Table N S
     pub take_may : MayGet mn mv t p b pl r → shrinks mv t.vals (rank r.data_bitmap 32) ≡ None → MayTake mn mv t p b pl r
     take_may m y = record { passed = take_set m ∙ ap (inside 10) y; at = at; here = m.here; granted = by_31 (shrinks mv t.vals) y }
 
-  -- what refuses a get refuses a take
-  pub take_refused : (f : Refusal) → get_no mn mv t p b ≡ Some f → take_no mn mv t p b ≡ Some f
-  take_refused f e = ap (λ (g : Grant). first g (inside 10 (shrinks mv t.vals (value_count (tree_in mn mv t) p)))) e
-
-  -- and what refuses a bare child refuses one with a value
-  pub plant_refused : (f : Refusal) → add_no mn mv t p b ≡ Some f → plant_no mn mv t p b ≡ Some f
-  plant_refused f e = ap (λ (g : Grant). first g (inside 10 (grows mv t.vals 0))) e
-
   module _ (at : Reached mn mv t p b 32 pl r) where
     child_shown : (tree_in mn mv t).has (p ++ b ∷ []) ≡ is_set r.child_bitmap b
     child_shown = child_bit (mn.live t.nodes) (mv.live t.vals) t.root a p pl r at.way b
@@ -135,10 +117,6 @@ module _ {V N S : Type 0} (mn : Model NodeRow N) (mv : Model V S) (t : Table N S
         ∙ ap (λ (x : Bool). add_after (leb 25 (length p)) x (rank r.child_bitmap 32)) (child_shown ∙ e)
         ∙ ap (λ (x : Bool). add_after x h (rank r.child_bitmap 32)) l
 
-    pub add_deep : 25 ≤ length p → add_no mn mv t p b ≡ Some (refusal 5 [])
-    unfolding add_after
-    add_deep l = add_asks true (is_set r.child_bitmap b) (le-leb 25 (length p) l) refl
-
     pub add_taken : length p < 25 → is_set r.child_bitmap b ≡ true → add_no mn mv t p b ≡ Some (refusal 6 [])
     unfolding add_after
     add_taken l e = add_asks false true (lt-leb 25 (length p) l) e
@@ -153,9 +131,6 @@ module _ {V N S : Type 0} (mn : Model NodeRow N) (mv : Model V S) (t : Table N S
     -- plant
     pub plant_asks : MayAdd mn mv t p b pl r → plant_no mn mv t p b ≡ inside 10 (grows mv t.vals 0)
     plant_asks m = ap (λ (g : Grant). first g (inside 10 (grows mv t.vals 0))) m.passed
-
-    pub plant_may : MayAdd mn mv t p b pl r → grows mv t.vals 0 ≡ None → MayPlant mn mv t p b pl r
-    plant_may m y = record { passed = plant_asks m ∙ ap (inside 10) y; add = m; granted = y }
 
     -- drop
     drop_after : Bool → Bool → ℕ → Grant

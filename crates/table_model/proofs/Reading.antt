@@ -1,9 +1,8 @@
 -- A path read byte by byte.
-use Rattle.std.proofs.Common.{◌≡◌, ℕ, ◌+◌, ◌≤◌, Bool, true, false, cond, ltb, Option, [], ◌∷◌, length, Some, None, sym, refl, ap, ◌∙◌, inl, inr}
+use Rattle.std.proofs.Common.{◌≡◌, ℕ, ◌+◌, ◌≤◌, Bool, true, false, cond, ltb, Option, [], ◌∷◌, length, Some, None, sym, refl, ap, ◌∙◌}
 use Rattle.std.specs.List.{position, position_from}
 use Rattle.std.proofs.lemmas.Iterator.Adapters.{position_from-zero}
-use Rattle.std.proofs.lemmas.Bool.{cases_lt, cond-true, cond-false, lt-ltb, le-ltb}
-use Rattle.runs.proofs.Shifts.{never}
+use Rattle.std.proofs.lemmas.Bool.{cond-false, le-ltb}
 use Rattle.runs.specs.Refusals.{refusal, Grant}
 use Rattle.table_model.specs.Tree.{Path}
 use Rattle.table_model.specs.Refusals.{bad_byte, bad_path}
@@ -27,10 +26,3 @@ pub bad_at : (p : Path) → length p ≤ 25 → bad_path p ≡ told_at (position
 bad_at p l =
     cond-false (ltb 25 (length p)) (Some (refusal 1 [])) (bad_byte 0 p) (le-ltb 25 (length p) l) ∙ bad_from 0 p
     ∙ sym (ap told_at (position_from-zero (λ b. ltb 31 b) p))
-
--- a path that reads well is at most 25 long
-pub reads_short : (p : Path) → bad_path p ≡ None → length p ≤ 25
-reads_short p e = elim (cases_lt 25 (length p)) [
-  | inl l ↦ absurd (never (bad_path p) (refusal 1 []) e (cond-true (ltb 25 (length p)) (Some (refusal 1 [])) (bad_byte 0 p) (lt-ltb 25 (length p) l)))
-  | inr l ↦ l
-]

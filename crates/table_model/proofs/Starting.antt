@@ -1,24 +1,13 @@
 -- Stores with no live run.
-use Rattle.std.proofs.Common.{◌≡◌, ℕ, zero, suc, ◌<◌, Bool, true, false, not, ◌&&◌, eqb, List, [], ◌∷◌, Some, None, refl, ap, ◌∙◌, inl, inr, arith}
-use Rattle.std.proofs.lemmas.Bool.{cases_lt, cases_eq, eqb-true, and_parts}
-use Rattle.runs.proofs.Shifts.{never}
-use Rattle.runs.specs.Refusals.{refusal}
+use Rattle.std.proofs.Common.{◌≡◌, ℕ, zero, suc, ◌<◌, List, [], ◌∷◌, refl, ap, ◌∙◌, inl, inr, arith}
+use Rattle.std.proofs.lemmas.Bool.{cases_lt, cases_eq}
 use Rattle.runs.specs.Lists.{indexes}
 use Rattle.runs.specs.Runs.{Model, Lawful, tally, one_run, count}
 use Rattle.runs.specs.declared.entry.NodeRow.{NodeRow}
-use Rattle.table_model.specs.Refusals.{when, no_start}
 use Rattle.table_model.specs.Table.{bare_row}
 use Rattle.table_model.specs.Tree.{bare}
 use Rattle.table_model.specs.States.{tree_in, Sound}
 use Rattle.table_model.proofs.Whole.{start_law}
-
--- what a table that may start says of the two counts
-idle : (a b : ℕ) (h : Bool) → eqb a 0 && eqb b 0 ≡ h → when (not h) (refusal 12 []) ≡ None → (a ≡ 0) × (b ≡ 0)
-idle a b true e y = let p = and_parts (eqb a 0) (eqb b 0) e in (eqb-true a 0 p.0, eqb-true b 0 p.1)
-idle a b false e y = absurd (never (Some (refusal 12 [])) (refusal 12 []) y refl)
-
-pub both_idle : (a b : ℕ) → no_start a b ≡ None → (a ≡ 0) × (b ≡ 0)
-both_idle a b y = idle a b (eqb a 0 && eqb b 0) refl y
 
 none_here : {E : Type 0} (xs : List E) → one_run xs ≡ 0 → xs ≡ []
 none_here [] e = refl

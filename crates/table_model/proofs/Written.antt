@@ -14,15 +14,6 @@ module _ {V N S : Type 0} (mn : Model NodeRow N) (mv : Model V S) (t : Table N S
   data_part : S → ℕ → ℕ → Table N S
   data_part s d j = record { nodes = written_nodes mn t.nodes pl (with_data r d j); vals = s; root = written_root t.root pl (with_data r d j) }
 
-  pub put_is : (x : V) (n1 : N) (v1 : S) (r1 : NodeRow) (d j : ℕ) → d ≡ with_bit r.data_bitmap b →
-      (v1, j) ≡ grown mv t.vals r.data_bitmap r.data_index (rank r.data_bitmap b) x →
-      n1 ≡ written_nodes mn t.nodes pl (with_data r d j) → r1 ≡ written_root t.root pl (with_data r d j) →
-      record { nodes = n1; vals = v1; root = r1 } ≡ put_at mn mv t pl r b x
-  unfolding data_part
-  put_is x n1 v1 r1 d j ed eg en er =
-      states_are n1 _ v1 v1 r1 _ en (λ _. v1) er ∙ ap (λ (k : ℕ). data_part v1 k j) ed
-      ∙ ap (λ (g : S × ℕ). data_part g.0 (with_bit r.data_bitmap b) g.1) eg
-
   pub take_is : (n1 : N) (v1 : S) (r1 : NodeRow) (d j : ℕ) → d ≡ without_bit r.data_bitmap b →
       v1 ≡ mv.removed t.vals r.data_index (rank r.data_bitmap b) → j ≡ mv.removed_at t.vals r.data_index (rank r.data_bitmap b) →
       n1 ≡ written_nodes mn t.nodes pl (with_data r d j) → r1 ≡ written_root t.root pl (with_data r d j) →
@@ -36,19 +27,6 @@ module _ {V N S : Type 0} (mn : Model NodeRow N) (mv : Model V S) (t : Table N S
   -- the child part is d now, with its run at j in the node store n
   child_part : N → ℕ → ℕ → Table N S
   child_part n d j = record { nodes = written_nodes mn n pl (with_children r d j); vals = t.vals; root = written_root t.root pl (with_children r d j) }
-
-  pub add_is : (n0 n1 : N) (v1 : S) (r1 : NodeRow) (d j : ℕ) → d ≡ with_bit r.child_bitmap b → (n0, j) ≡ child_run mn t.nodes r b → v1 ≡ t.vals →
-      n1 ≡ written_nodes mn n0 pl (with_children r d j) → r1 ≡ written_root t.root pl (with_children r d j) →
-      record { nodes = n1; vals = v1; root = r1 } ≡ add_at mn mv t pl r b
-  unfolding child_part
-  add_is n0 n1 v1 r1 d j ed eg ev en er =
-      states_are n1 _ v1 _ r1 _ en ev er ∙ ap (λ (k : ℕ). child_part n0 k j) ed
-      ∙ ap (λ (g : N × ℕ). child_part g.0 (with_bit r.child_bitmap b) g.1) eg
-
-  -- and the new child stands there
-  pub added_slot : (n0 : N) (d j k : ℕ) → d ≡ with_bit r.child_bitmap b → (n0, j) ≡ child_run mn t.nodes r b → k ≡ rank d b →
-      slot j k ≡ slot (child_run mn t.nodes r b).1 (rank (with_bit r.child_bitmap b) b)
-  added_slot n0 d j k ed eg ek = ap (λ (x : ℕ). slot x k) (ap (λ (g : N × ℕ). g.1) eg) ∙ ap (slot (child_run mn t.nodes r b).1) (ek ∙ ap (λ (x : ℕ). rank x b) ed)
 
   pub drop_is : (n0 n1 : N) (v1 : S) (r1 : NodeRow) (d j : ℕ) → d ≡ without_bit r.child_bitmap b →
       n0 ≡ mn.removed t.nodes r.children_index (rank r.child_bitmap b) → j ≡ mn.removed_at t.nodes r.children_index (rank r.child_bitmap b) → v1 ≡ t.vals →
@@ -70,17 +48,9 @@ module _ {V N S : Type 0} (mn : Model NodeRow N) (mv : Model V S) (t : Table N S
 
 -- the root that a step leaves
 module _ {V N S : Type 0} (mn : Model NodeRow N) (mv : Model V S) (t : Table N S) (pl : Place) (r : NodeRow) (b : ℕ) where
-  pub put_root : (x : V) (v1 : S) (d j : ℕ) → d ≡ with_bit r.data_bitmap b → (v1, j) ≡ grown mv t.vals r.data_bitmap r.data_index (rank r.data_bitmap b) x →
-      written_root t.root pl (with_data r d j) ≡ (put_at mn mv t pl r b x).root
-  put_root x v1 d j ed eg = ap (λ (s : Table N S). s.root) (put_is mn mv t pl r b x (written_nodes mn t.nodes pl (with_data r d j)) v1 (written_root t.root pl (with_data r d j)) d j ed eg refl refl)
-
   pub take_root : (d j : ℕ) → d ≡ without_bit r.data_bitmap b → j ≡ mv.removed_at t.vals r.data_index (rank r.data_bitmap b) →
       written_root t.root pl (with_data r d j) ≡ (take_at mn mv t pl r b).root
   take_root d j ed ej = ap (λ (s : Table N S). s.root) (take_is mn mv t pl r b (written_nodes mn t.nodes pl (with_data r d j)) _ (written_root t.root pl (with_data r d j)) d j ed refl ej refl refl)
-
-  pub add_root : (n0 : N) (d j : ℕ) → d ≡ with_bit r.child_bitmap b → (n0, j) ≡ child_run mn t.nodes r b →
-      written_root t.root pl (with_children r d j) ≡ (add_at mn mv t pl r b).root
-  add_root n0 d j ed eg = ap (λ (s : Table N S). s.root) (add_is mn mv t pl r b n0 (written_nodes mn n0 pl (with_children r d j)) t.vals (written_root t.root pl (with_children r d j)) d j ed eg refl refl refl)
 
   pub drop_root : (d j : ℕ) → d ≡ without_bit r.child_bitmap b → j ≡ mn.removed_at t.nodes r.children_index (rank r.child_bitmap b) →
       written_root t.root pl (with_children r d j) ≡ (drop_at mn mv t pl r b).root

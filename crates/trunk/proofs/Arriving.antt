@@ -1,5 +1,5 @@
--- A call that has been judged and then done or refused, in the words of its contract.
-use Rattle.std.proofs.Common.{◌≡◌, Some, None, Ok, Err, Result, sym, refl, ap, ◌∙◌, subst}
+-- A call that has been judged and done, in the words of its contract.
+use Rattle.std.proofs.Common.{◌≡◌, Ok, sym, ap, ◌∙◌, subst}
 use Rattle.runs.specs.Calls.{moved_on}
 use Rattle.runs.specs.Refusals.{Grant}
 use Rattle.runs.specs.declared.entry.NodeRow.{NodeRow}
@@ -9,34 +9,22 @@ use Rattle.table_model.specs.Tree.{Tree}
 use Rattle.table_model.specs.Table.{Agrees}
 use Rattle.table_model.specs.States.{Table as States, tree_in, Sound as SoundStates}
 use Rattle.table_model.proofs.Doing.{Arrives}
-use Rattle.nodes.specs.Told.{told_fault}
-use Rattle.nodes.specs.declared.fault.Fault.{Fault}
+use Rattle.table_model.proofs.Known.{known}
 use Rattle.trunk.specs.declared.Trunk.{Trunk}
 use Rattle.trunk.specs.Meaning.{states, tree, Sound}
 use Rattle.trunk.specs.Promises.{Done}
 
 module _ {E In Ix N V : Type 0} (n : Ghosts N NodeRow In) (v : Ghosts V E Ix) where
   pub valid : ((s : N) → n.Valid (n.state s)) → ((s : V) → v.Valid (v.state s)) → (t : Trunk N V) → Sound n v t → SoundStates n.model v.model n.Valid v.Valid (states n v t)
-  valid a b t s = record { nodes_valid = a t.nodes; vals_valid = b t.values; agrees = s }
+  valid a b t s = record { nodes_valid = a t.nodes; vals_valid = b t.values; agrees = known _ _ _ s }
 
   -- a call that has come to where it leads
   pub done : {X : Type 0} (t u : Trunk N V) (x : X) {why : Grant} {P : X → Type 0} {to here : States n.State v.State} {tr : Tree E} →
       states n v u ≡ here → Arrives n.model v.model n.Valid v.Valid why to tr here → P x → Done n v t why P to tr (Ok x) u
   done t u x {why} {P} {to} {here} {tr} e o q = record {
-    sound = subst (λ (z : States n.State v.State). Agrees (n.model.live z.nodes) (v.model.live z.vals) z.root) (sym e) o.sound.agrees;
+    sound = ∣ subst (λ (z : States n.State v.State). Agrees (n.model.live z.nodes) (v.model.live z.vals) z.root) (sym e) o.sound.agrees ∣₁;
     answer = (o.granted, q);
     states = e ∙ sym o.leads ∙ sym (ap (λ (g : Grant). moved_on g (states n v t) to) o.granted);
     tree = ap (tree_in n.model v.model) e ∙ o.tree ∙ sym (ap (λ (g : Grant). moved_on g (tree n v t) tr) o.granted);
     untouched = λ f z. absurd (never why f o.granted z);
-  }
-
-  -- a call that is refused before anything is written
-  pub refused : {X : Type 0} (t : Trunk N V) (r : Result X Fault) (f : Fault) {why : Grant} {P : X → Type 0} {to : States n.State v.State} {u : Tree E} →
-      Sound n v t → r ≡ Err f → why ≡ Some (told_fault f) → Done n v t why P to u r t
-  refused t r f s e y = record {
-    sound = s;
-    answer = rw e y;
-    states = rw y refl;
-    tree = rw y refl;
-    untouched = λ g z. record { states = refl; nodes = refl; values = refl };
   }

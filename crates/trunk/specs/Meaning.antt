@@ -15,9 +15,9 @@ module _ {E In Ix N V : Type 0} (n : Ghosts N NodeRow In) (v : Ghosts V E Ix) wh
   abbrev pub tree : Trunk N V → Tree E
   tree t = tree_in n.model v.model (states t)
 
-  -- the table agrees with its two stores
+  -- it is known that the table agrees with its two stores
   abbrev pub Sound : Trunk N V → Type 0
-  Sound t = Agrees (n.model.live (n.state t.nodes)) (v.model.live (v.state t.values)) (row_of t.root)
+  Sound t = ∥ Agrees (n.model.live (n.state t.nodes)) (v.model.live (v.state t.values)) (row_of t.root) ∥₁
 
   -- nothing is changed: the root and both states, and both memories to the last cell
   pub record Untouched (t after : Trunk N V) : Type 0 where

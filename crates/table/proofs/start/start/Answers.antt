@@ -11,23 +11,25 @@ pub invariant_of-result : goal.invariant_of-result
 invariant_of-result g c =
     let n = g.N.Runs in
     let v = g.V.Runs in
+    let nodes : count (n.model.live (n.state c.args.nodes)) ≡ 0 = cc in
+    let values : count (v.model.live (v.state c.args.values)) ≡ 0 = cc in
     let o = started n.model v.model _ _ _ _ g.met.N.Runs.lawful g.met.V.Runs.lawful (n.state c.args.nodes) (v.state c.args.values) (g.met.N.Runs.valid c.args.nodes) (g.met.V.Runs.valid c.args.values)
-    (sym c.count.ensures ∙ c.if-count-ne0.false) (sym c.count-else-count-ne0.ensures ∙ c.if-count-ne0-2.false) in
-    record { agrees = ∣ subst (λ (r : NodeRow). Agrees (n.model.live (n.state c.args.nodes)) (v.model.live (v.state c.args.values)) r) (sym c.bare.ensures) o.0.agrees ∣₁ }
+    nodes values in
+    record { sound = ∣ subst (λ (r : NodeRow). Agrees (n.model.live (n.state c.args.nodes)) (v.model.live (v.state c.args.values)) r) (sym c.bare.ensures) o.0.agrees ∣₁ }
 
 pub returns : goal.returns
 returns g c =
     let n = g.N.Runs in
     let v = g.V.Runs in
-    let nodes : count (n.model.live (n.state c.args.nodes)) ≡ 0 = sym c.count.ensures ∙ c.if-count-ne0.false in
-    let values : count (v.model.live (v.state c.args.values)) ≡ 0 = sym c.count-else-count-ne0.ensures ∙ c.if-count-ne0-2.false in
+    let nodes : count (n.model.live (n.state c.args.nodes)) ≡ 0 = cc in
+    let values : count (v.model.live (v.state c.args.values)) ≡ 0 = cc in
     let o = started n.model v.model _ _ _ _ g.met.N.Runs.lawful g.met.V.Runs.lawful (n.state c.args.nodes) (v.state c.args.values) (g.met.N.Runs.valid c.args.nodes) (g.met.V.Runs.valid c.args.values) nodes values in
     let here = states_are {N = n.State} {S = v.State} (n.state c.args.nodes) (n.state c.args.nodes) (v.state c.args.values) (v.state c.args.values) _ bare_row refl refl c.bare.ensures in
     record {
       answer = (
         rw (nodes, values) refl,
         record {
-          sound = subst (λ (r : NodeRow). Agrees (n.model.live (n.state c.args.nodes)) (v.model.live (v.state c.args.values)) r) (sym c.bare.ensures) o.0.agrees;
+          sound = ∣ subst (λ (r : NodeRow). Agrees (n.model.live (n.state c.args.nodes)) (v.model.live (v.state c.args.values)) r) (sym c.bare.ensures) o.0.agrees ∣₁;
           states = here;
           tree = ap (tree_in n.model v.model) here ∙ o.1;
           nodes = refl;

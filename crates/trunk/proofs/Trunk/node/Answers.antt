@@ -1,3 +1,4 @@
+use Rattle.table_model.proofs.Known.{known}
 use Rattle.nodes.specs.Records.{row_of}
 use Rattle.trunk.specs.Steps.{place_of}
 use Rattle.std.proofs.Common.{◌∙◌}
@@ -21,5 +22,5 @@ returns g c =
     MatchResult-weaker c.follow.result c.follow.ensures
     (λ s e.
     let f = way_find nodes root p (place_of s.place) (row_of s.record) e in
-    (path_there (tree n v t) p good (node_has nodes vals root c.requires p (place_of s.place) (row_of s.record) e), record { found = f; shown = show_law nodes vals root p (row_of s.record) c.requires f }))
+    (path_there (tree n v t) p good (node_has nodes vals root (known _ _ _ c.requires) p (place_of s.place) (row_of s.record) e), record { found = f; shown = show_law nodes vals root p (row_of s.record) (known _ _ _ c.requires) f }))
     (λ f e. path_node (tree n v t) p good ∙ e)
