@@ -73,6 +73,6 @@ impl<E: Entry, N: RunStore<Item = NodeRow>, V: RunStore<Item = E>> Table<N, V> {
         ensures { Shows N.Runs V.Runs self.now.trunk path.now result }
     {
         let spot = self.trunk.node(path)?;
-        Ok(NodeRow::from(spot.record))
+        Ok(NodeRow::from(spot.node))
     }
 }

@@ -16,7 +16,7 @@ place_of (Some p) = slot p.run.number p.slot.number
 
 -- what is known of a place and its record
 abbrev pub At : (Placed → NodeRow → Type 0) → Spot → Type 0
-At P s = P (place_of s.place) (row_of s.record)
+At P s = P (place_of s.place) (row_of s.node)
 
 -- A call is judged before anything is written: it is refused as `why` says, or P holds of the place and the record that it answers.
 abbrev pub Judged : Grant → (Placed → NodeRow → Type 0) → Result Spot Fault → Type 0

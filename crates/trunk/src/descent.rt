@@ -35,20 +35,20 @@ impl<E: Entry, N: RunStore<Item = NodeRow>, V: RunStore<Item = E>> Trunk<N, V> {
     // The child of a node at a bit, if there is one.
     pub fn child(&self, spot: Spot, bit: Bit) -> Option<Spot>
         requires sound { Sound N.Runs V.Runs self.now }
-        requires node { (p : Path) × (way N.Runs.model V.Runs.model (states N.Runs V.Runs self.now) p ≡ Some (place_of spot.place, row_of spot.record)) }
+        requires node { (p : Path) × (way N.Runs.model V.Runs.model (states N.Runs V.Runs self.now) p ≡ Some (place_of spot.place, row_of spot.node)) }
         ensures { MatchOption result
-            (child (N.Runs.model.live (N.Runs.state self.now.nodes)) (row_of spot.record) bit.number ≡ None)
-            (At (λ pl x. (child (N.Runs.model.live (N.Runs.state self.now.nodes)) (row_of spot.record) bit.number ≡ Some x)
-            × (pl ≡ slot spot.record.children_index.number (rank spot.record.child_bitmap bit.number)))) }
+            (child (N.Runs.model.live (N.Runs.state self.now.nodes)) (row_of spot.node) bit.number ≡ None)
+            (At (λ pl x. (child (N.Runs.model.live (N.Runs.state self.now.nodes)) (row_of spot.node) bit.number ≡ Some x)
+            × (pl ≡ slot spot.node.children_index.number (rank spot.node.child_bitmap bit.number)))) }
     {
-        let record = spot.record;
-        if !is_set(record.child_bitmap, bit) {
+        let node = spot.node;
+        if !is_set(node.child_bitmap, bit) {
             return None;
         }
-        let row = record.children().entry(&self.nodes, bit).unwrap();
+        let row = node.children().entry(&self.nodes, bit).unwrap();
         Some(Spot {
-            place: Some(child_place(record, bit)),
-            record: NodeRecord::try_from(row).unwrap(),
+            place: Some(child_place(node, bit)),
+            node: NodeRecord::try_from(row).unwrap(),
         })
     }
 
@@ -62,7 +62,7 @@ impl<E: Entry, N: RunStore<Item = NodeRow>, V: RunStore<Item = E>> Trunk<N, V> {
     {
         let mut spot = Spot {
             place: None,
-            record: self.root,
+            node: self.root,
         };
         for (i, b) in path.iter().enumerate() {
             let bit = Bit { number: *b as u32 };

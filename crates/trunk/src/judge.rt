@@ -34,7 +34,7 @@ impl<E: Entry, N: RunStore<Item = NodeRow>, V: RunStore<Item = E>> Trunk<N, V> {
             result }
     {
         let spot = self.reach(path, bit, DATA_BITS)?;
-        if !is_set(spot.record.data_bitmap, bit) {
+        if !is_set(spot.node.data_bitmap, bit) {
             return Err(Fault::Missing);
         }
         Ok(spot)
@@ -48,10 +48,10 @@ impl<E: Entry, N: RunStore<Item = NodeRow>, V: RunStore<Item = E>> Trunk<N, V> {
             result }
     {
         let spot = self.reach(path, bit, DATA_BITS)?;
-        if is_set(spot.record.data_bitmap, bit) {
+        if is_set(spot.node.data_bitmap, bit) {
             return Err(Fault::Taken);
         }
-        let data = spot.record.data();
+        let data = spot.node.data();
         data.may_grow(&self.values).map_err(Fault::Values)?;
         Ok(spot)
     }
@@ -64,7 +64,7 @@ impl<E: Entry, N: RunStore<Item = NodeRow>, V: RunStore<Item = E>> Trunk<N, V> {
             result }
     {
         let spot = self.may_get(path, bit)?;
-        let data = spot.record.data();
+        let data = spot.node.data();
         data.may_shrink(&self.values).map_err(Fault::Values)?;
         Ok(spot)
     }
@@ -80,10 +80,10 @@ impl<E: Entry, N: RunStore<Item = NodeRow>, V: RunStore<Item = E>> Trunk<N, V> {
         if at_depth(path) {
             return Err(Fault::TooDeep);
         }
-        if is_set(spot.record.child_bitmap, bit) {
+        if is_set(spot.node.child_bitmap, bit) {
             return Err(Fault::Taken);
         }
-        let children = spot.record.children();
+        let children = spot.node.children();
         children.may_grow(&self.nodes).map_err(Fault::Nodes)?;
         Ok(spot)
     }
@@ -109,10 +109,10 @@ impl<E: Entry, N: RunStore<Item = NodeRow>, V: RunStore<Item = E>> Trunk<N, V> {
     {
         let spot = self.reach(path, bit, CHILD_BITS)?;
         let child = self.child(spot, bit).ok_or(Fault::Missing)?;
-        if child.record.data_bitmap != 0 || child.record.child_bitmap != 0 {
+        if child.node.data_bitmap != 0 || child.node.child_bitmap != 0 {
             return Err(Fault::NotBare);
         }
-        let children = spot.record.children();
+        let children = spot.node.children();
         children.may_shrink(&self.nodes).map_err(Fault::Nodes)?;
         Ok(spot)
     }

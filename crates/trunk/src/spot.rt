@@ -14,5 +14,5 @@ pub struct Place {
 #[derive(Clone, Copy)]
 pub struct Spot {
     pub place: Option<Place>,
-    pub record: NodeRecord,
+    pub node: NodeRecord,
 }

@@ -37,39 +37,39 @@ impl<E: Entry, N: RunStore<Item = NodeRow>, V: RunStore<Item = E>> Trunk<N, V> {
 
     // A value at a bit of the record at a place, which the value store has granted.
     fn set_value(&mut self, spot: Spot, bit: Bit, value: E)
-        requires growth { no_growth V.Runs.model (V.Runs.state self.old.values) spot.record.data_bitmap spot.record.data_index.number (rank spot.record.data_bitmap bit.number) ≡ None }
+        requires growth { no_growth V.Runs.model (V.Runs.state self.old.values) spot.node.data_bitmap spot.node.data_index.number (rank spot.node.data_bitmap bit.number) ≡ None }
         requires write { no_write N.Runs.model (N.Runs.state self.old.nodes) (place_of spot.place) ≡ None }
-        requires passes { Passes (put_at N.Runs.model V.Runs.model (states N.Runs V.Runs self.old) (place_of spot.place) (row_of spot.record) bit.number value).root }
-        ensures { states N.Runs V.Runs self.new ≡ put_at N.Runs.model V.Runs.model (states N.Runs V.Runs self.old) (place_of spot.place) (row_of spot.record) bit.number value }
+        requires passes { Passes (put_at N.Runs.model V.Runs.model (states N.Runs V.Runs self.old) (place_of spot.place) (row_of spot.node) bit.number value).root }
+        ensures { states N.Runs V.Runs self.new ≡ put_at N.Runs.model V.Runs.model (states N.Runs V.Runs self.old) (place_of spot.place) (row_of spot.node) bit.number value }
     {
-        let record = spot.record;
-        let data = record.data().grow(&mut self.values, bit, value).unwrap();
-        self.write(spot.place, record.with_data(data));
+        let node = spot.node;
+        let data = node.data().grow(&mut self.values, bit, value).unwrap();
+        self.write(spot.place, node.with_data(data));
     }
 
     // A bare child at a bit of the record at a place, which the node store has granted; the answer is the child's place.
     fn grow_child(&mut self, spot: Spot, bit: Bit) -> Spot
-        requires growth { no_growth N.Runs.model (N.Runs.state self.old.nodes) spot.record.child_bitmap spot.record.children_index.number (rank spot.record.child_bitmap bit.number) ≡ None }
-        requires write { no_write N.Runs.model (child_run N.Runs.model (N.Runs.state self.old.nodes) (row_of spot.record) bit.number).0 (place_of spot.place) ≡ None }
-        requires passes { Passes (add_at N.Runs.model V.Runs.model (states N.Runs V.Runs self.old) (place_of spot.place) (row_of spot.record) bit.number).root }
+        requires growth { no_growth N.Runs.model (N.Runs.state self.old.nodes) spot.node.child_bitmap spot.node.children_index.number (rank spot.node.child_bitmap bit.number) ≡ None }
+        requires write { no_write N.Runs.model (child_run N.Runs.model (N.Runs.state self.old.nodes) (row_of spot.node) bit.number).0 (place_of spot.place) ≡ None }
+        requires passes { Passes (add_at N.Runs.model V.Runs.model (states N.Runs V.Runs self.old) (place_of spot.place) (row_of spot.node) bit.number).root }
         ensures values { self.new.values ≡ self.old.values }
-        ensures after { states N.Runs V.Runs self.new ≡ add_at N.Runs.model V.Runs.model (states N.Runs V.Runs self.old) (place_of spot.place) (row_of spot.record) bit.number }
-        ensures place { place_of result.place ≡ slot (child_run N.Runs.model (N.Runs.state self.old.nodes) (row_of spot.record) bit.number).1 (rank (with_bit spot.record.child_bitmap bit.number) bit.number) }
-        ensures row { row_of result.record ≡ bare_row }
+        ensures after { states N.Runs V.Runs self.new ≡ add_at N.Runs.model V.Runs.model (states N.Runs V.Runs self.old) (place_of spot.place) (row_of spot.node) bit.number }
+        ensures place { place_of result.place ≡ slot (child_run N.Runs.model (N.Runs.state self.old.nodes) (row_of spot.node) bit.number).1 (rank (with_bit spot.node.child_bitmap bit.number) bit.number) }
+        ensures row { row_of result.node ≡ bare_row }
     {
-        let record = spot.record;
+        let node = spot.node;
         let bare = NodeRecord::bare();
-        let children = record
+        let children = node
             .children()
             .grow(&mut self.nodes, bit, NodeRow::from(bare))
             .unwrap();
-        self.write(spot.place, record.with_children(children));
+        self.write(spot.place, node.with_children(children));
         Spot {
             place: Some(Place {
                 run: NodeIndex::at(children.index),
                 slot: compute_slot(children.bitmap, bit),
             }),
-            record: bare,
+            node: bare,
         }
     }
 
@@ -80,7 +80,7 @@ impl<E: Entry, N: RunStore<Item = NodeRow>, V: RunStore<Item = E>> Trunk<N, V> {
         ensures { (p : Path) → At (MayGet N.Runs.model V.Runs.model (states N.Runs V.Runs self.now) p bit.number) spot
             → Gets N.Runs V.Runs self.now p bit.number (Ok result) }
     {
-        spot.record.data().entry(&self.values, bit).unwrap()
+        spot.node.data().entry(&self.values, bit).unwrap()
     }
 
     // Another value for the one at a set bit.
@@ -90,7 +90,7 @@ impl<E: Entry, N: RunStore<Item = NodeRow>, V: RunStore<Item = E>> Trunk<N, V> {
         ensures { (p : Path) → At (MayGet N.Runs.model V.Runs.model (states N.Runs V.Runs self.old) p bit.number) spot
             → Swaps N.Runs V.Runs self.old p bit.number value (Ok result) self.new }
     {
-        spot.record
+        spot.node
             .data()
             .exchange(&mut self.values, bit, value)
             .unwrap()
@@ -113,9 +113,9 @@ impl<E: Entry, N: RunStore<Item = NodeRow>, V: RunStore<Item = E>> Trunk<N, V> {
         ensures { (p : Path) → At (MayTake N.Runs.model V.Runs.model (states N.Runs V.Runs self.old) p bit.number) spot
             → Takes N.Runs V.Runs self.old p bit.number (Ok result) self.new }
     {
-        let record = spot.record;
-        let (value, data) = record.data().shrink(&mut self.values, bit).unwrap();
-        self.write(spot.place, record.with_data(data));
+        let node = spot.node;
+        let (value, data) = node.data().shrink(&mut self.values, bit).unwrap();
+        self.write(spot.place, node.with_data(data));
         value
     }
 
@@ -147,8 +147,8 @@ impl<E: Entry, N: RunStore<Item = NodeRow>, V: RunStore<Item = E>> Trunk<N, V> {
         ensures { (p : Path) → At (MayDrop N.Runs.model V.Runs.model (states N.Runs V.Runs self.old) p bit.number) spot
             → Drops N.Runs V.Runs self.old p bit.number (Ok result) self.new }
     {
-        let record = spot.record;
-        let (_, children) = record.children().shrink(&mut self.nodes, bit).unwrap();
-        self.write(spot.place, record.with_children(children));
+        let node = spot.node;
+        let (_, children) = node.children().shrink(&mut self.nodes, bit).unwrap();
+        self.write(spot.place, node.with_children(children));
     }
 }

@@ -15,9 +15,9 @@ grow_child-requires g c =
     let sd = valid n v g.met.N.Runs.valid g.met.V.Runs.valid t c.requires.sound in
     let m = c.requires.may.1 in
     record {
-      growth = child_granted n.model v.model _ _ _ _ g.met.N.Runs.lawful g.met.V.Runs.lawful (states n v t) sd c.requires.may.0 b (place_of s.place) (row_of s.record) m;
-      write = parent_granted n.model v.model _ _ _ _ g.met.N.Runs.lawful g.met.V.Runs.lawful (states n v t) sd c.requires.may.0 b (place_of s.place) (row_of s.record) m;
-      passes = root_there n.model v.model _ _ _ _ _ _ (add_arrives n.model v.model _ _ _ _ g.met.N.Runs.lawful g.met.V.Runs.lawful (states n v t) sd c.requires.may.0 b (place_of s.place) (row_of s.record) m);
+      growth = child_granted n.model v.model _ _ _ _ g.met.N.Runs.lawful g.met.V.Runs.lawful (states n v t) sd c.requires.may.0 b (place_of s.place) (row_of s.node) m;
+      write = parent_granted n.model v.model _ _ _ _ g.met.N.Runs.lawful g.met.V.Runs.lawful (states n v t) sd c.requires.may.0 b (place_of s.place) (row_of s.node) m;
+      passes = root_there n.model v.model _ _ _ _ _ _ (add_arrives n.model v.model _ _ _ _ g.met.N.Runs.lawful g.met.V.Runs.lawful (states n v t) sd c.requires.may.0 b (place_of s.place) (row_of s.node) m);
     }
 
 pub returns : goal.returns
@@ -28,4 +28,4 @@ returns g c p m =
     let s = c.args.spot in
     let b = c.args.bit.number in
     let sd = valid n v g.met.N.Runs.valid g.met.V.Runs.valid t c.requires.sound in
-    done n v t c.grow_child.new.self tt c.grow_child.ensures.after (add_arrives n.model v.model _ _ _ _ g.met.N.Runs.lawful g.met.V.Runs.lawful (states n v t) sd p b (place_of s.place) (row_of s.record) m) tt
+    done n v t c.grow_child.new.self tt c.grow_child.ensures.after (add_arrives n.model v.model _ _ _ _ g.met.N.Runs.lawful g.met.V.Runs.lawful (states n v t) sd p b (place_of s.place) (row_of s.node) m) tt

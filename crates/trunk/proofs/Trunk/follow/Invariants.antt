@@ -6,4 +6,4 @@ use Rattle.trunk.specs.Steps.{place_of}
 use Rattle.trunk.proofs.Trunk.follow.Given as goal
 
 abbrev pub invariant-loop-i : goal.invariant-loop-i
-invariant-loop-i g l = way g.N.Runs.model g.V.Runs.model (states g.N.Runs g.V.Runs l.self) (take l.i l.path) ≡ Some (place_of l.spot.place, row_of l.spot.record)
+invariant-loop-i g l = way g.N.Runs.model g.V.Runs.model (states g.N.Runs g.V.Runs l.self) (take l.i l.path) ≡ Some (place_of l.spot.place, row_of l.spot.node)

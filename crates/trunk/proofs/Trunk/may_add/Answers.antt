@@ -19,7 +19,7 @@ returns-then-is_set g c =
     let p = c.args.path.now in
     let b = c.args.bit.number in
     let s = c.in_ok-spot.spot in
-    add_taken n.model v.model (states n v t) (known _ _ _ c.requires) p b (place_of s.place) (row_of s.record) c.in_ok-spot.ensures (leb-false 25 (length p) (sym c.at_depth.ensures ∙ c.if-at_depth.false)) (sym c.is_set.ensures ∙ c.if-is_set.true)
+    add_taken n.model v.model (states n v t) (known _ _ _ c.requires) p b (place_of s.place) (row_of s.node) c.in_ok-spot.ensures (leb-false 25 (length p) (sym c.at_depth.ensures ∙ c.if-at_depth.false)) (sym c.is_set.ensures ∙ c.if-is_set.true)
 
 pub returns-in_err-map_err : goal.returns-in_err-map_err
 returns-in_err-map_err g c =
@@ -30,7 +30,7 @@ returns-in_err-map_err g c =
     let b = c.args.bit.number in
     let s = c.in_ok-spot.spot in
     let why : add_no n.model v.model (states n v t) p b ≡ inside 9 (grows n.model (n.state t.nodes) (rank c.children-children.result.bitmap 32)) =
-    rw c.children-children.ensures.bitmap (add_clear n.model v.model (states n v t) (known _ _ _ c.requires) p b (place_of s.place) (row_of s.record) c.in_ok-spot.ensures (leb-false 25 (length p) (sym c.at_depth.ensures ∙ c.if-at_depth.false)) (sym c.is_set.ensures ∙ c.if-is_set.false)) in
+    rw c.children-children.ensures.bitmap (add_clear n.model v.model (states n v t) (known _ _ _ c.requires) p b (place_of s.place) (row_of s.node) c.in_ok-spot.ensures (leb-false 25 (length p) (sym c.at_depth.ensures ∙ c.if-at_depth.false)) (sym c.is_set.ensures ∙ c.if-is_set.false)) in
     search (rules, why)
 
 pub returns : goal.returns
@@ -42,4 +42,4 @@ returns g c =
     let b = c.args.bit.number in
     let s = c.in_ok-spot.spot in
     let yes : grows n.model (n.state t.nodes) (rank c.children-children.result.bitmap 32) ≡ None = search rules in
-    add_may n.model v.model (states n v t) (known _ _ _ c.requires) p b (place_of s.place) (row_of s.record) c.in_ok-spot.ensures (leb-false 25 (length p) (sym c.at_depth.ensures ∙ c.if-at_depth.false)) (sym c.is_set.ensures ∙ c.if-is_set.false) (rw c.children-children.ensures.bitmap at yes)
+    add_may n.model v.model (states n v t) (known _ _ _ c.requires) p b (place_of s.place) (row_of s.node) c.in_ok-spot.ensures (leb-false 25 (length p) (sym c.at_depth.ensures ∙ c.if-at_depth.false)) (sym c.is_set.ensures ∙ c.if-is_set.false) (rw c.children-children.ensures.bitmap at yes)

@@ -19,8 +19,8 @@ returns-in_err-child g c =
     let p = c.args.path.now in
     let b = c.args.bit.number in
     let s = c.in_ok-spot.spot in
-    let none : child (n.model.live (n.state t.nodes)) (row_of s.record) b ≡ None = search rules in
-    let why = drop_missing n.model v.model (states n v t) (known _ _ _ c.requires) p b (place_of s.place) (row_of s.record) c.in_ok-spot.ensures none in
+    let none : child (n.model.live (n.state t.nodes)) (row_of s.node) b ≡ None = search rules in
+    let why = drop_missing n.model v.model (states n v t) (known _ _ _ c.requires) p b (place_of s.place) (row_of s.node) c.in_ok-spot.ensures none in
     search (rules, why)
 
 pub returns-then-child-ne0 : goal.returns-then-child-ne0
@@ -31,8 +31,8 @@ returns-then-child-ne0 g c =
     let p = c.args.path.now in
     let b = c.args.bit.number in
     let s = c.in_ok-spot.spot in
-    let stood : child (n.model.live (n.state t.nodes)) (row_of s.record) b ≡ Some (row_of c.in_ok-child.child.record) = search rules in
-    drop_full n.model v.model (states n v t) (known _ _ _ c.requires) p b (place_of s.place) (row_of s.record) c.in_ok-spot.ensures (row_of c.in_ok-child.child.record) stood (λ e. elim c.then-child-ne0.either [ inl w ↦ w e.0 | inr w ↦ w.1 e.1 ])
+    let stood : child (n.model.live (n.state t.nodes)) (row_of s.node) b ≡ Some (row_of c.in_ok-child.child.node) = search rules in
+    drop_full n.model v.model (states n v t) (known _ _ _ c.requires) p b (place_of s.place) (row_of s.node) c.in_ok-spot.ensures (row_of c.in_ok-child.child.node) stood (λ e. elim c.then-child-ne0.either [ inl w ↦ w e.0 | inr w ↦ w.1 e.1 ])
 
 pub returns-in_err-map_err : goal.returns-in_err-map_err
 returns-in_err-map_err g c =
@@ -42,9 +42,9 @@ returns-in_err-map_err g c =
     let p = c.args.path.now in
     let b = c.args.bit.number in
     let s = c.in_ok-spot.spot in
-    let stood : child (n.model.live (n.state t.nodes)) (row_of s.record) b ≡ Some (row_of c.in_ok-child.child.record) = search rules in
+    let stood : child (n.model.live (n.state t.nodes)) (row_of s.node) b ≡ Some (row_of c.in_ok-child.child.node) = search rules in
     let why : drop_no n.model v.model (states n v t) p b ≡ inside 9 (shrinks n.model (n.state t.nodes) (rank c.children-children.result.bitmap 32)) =
-    rw c.children-children.ensures.bitmap (drop_bare n.model v.model (states n v t) (known _ _ _ c.requires) p b (place_of s.place) (row_of s.record) c.in_ok-spot.ensures (row_of c.in_ok-child.child.record) stood (omega arith) (omega arith)) in
+    rw c.children-children.ensures.bitmap (drop_bare n.model v.model (states n v t) (known _ _ _ c.requires) p b (place_of s.place) (row_of s.node) c.in_ok-spot.ensures (row_of c.in_ok-child.child.node) stood (omega arith) (omega arith)) in
     search (rules, why)
 
 pub returns : goal.returns
@@ -55,6 +55,6 @@ returns g c =
     let p = c.args.path.now in
     let b = c.args.bit.number in
     let s = c.in_ok-spot.spot in
-    let stood : child (n.model.live (n.state t.nodes)) (row_of s.record) b ≡ Some (row_of c.in_ok-child.child.record) = search rules in
+    let stood : child (n.model.live (n.state t.nodes)) (row_of s.node) b ≡ Some (row_of c.in_ok-child.child.node) = search rules in
     let yes : shrinks n.model (n.state t.nodes) (rank c.children-children.result.bitmap 32) ≡ None = search rules in
-    drop_may n.model v.model (states n v t) (known _ _ _ c.requires) p b (place_of s.place) (row_of s.record) c.in_ok-spot.ensures (row_of c.in_ok-child.child.record) stood (omega arith) (omega arith) (rw c.children-children.ensures.bitmap at yes)
+    drop_may n.model v.model (states n v t) (known _ _ _ c.requires) p b (place_of s.place) (row_of s.node) c.in_ok-spot.ensures (row_of c.in_ok-child.child.node) stood (omega arith) (omega arith) (rw c.children-children.ensures.bitmap at yes)

@@ -14,7 +14,7 @@ returns-then-not-is_set g c =
     let p = c.args.path.now in
     let b = c.args.bit.number in
     let s = c.in_ok-spot.spot in
-    get_missing n.model v.model (states n v t) (known _ _ _ c.requires) p b (place_of s.place) (row_of s.record) c.in_ok-spot.ensures (sym c.is_set.ensures ∙ c.if-not-is_set.true)
+    get_missing n.model v.model (states n v t) (known _ _ _ c.requires) p b (place_of s.place) (row_of s.node) c.in_ok-spot.ensures (sym c.is_set.ensures ∙ c.if-not-is_set.true)
 
 pub returns : goal.returns
 returns g c =
@@ -24,4 +24,4 @@ returns g c =
     let p = c.args.path.now in
     let b = c.args.bit.number in
     let s = c.in_ok-spot.spot in
-    get_may n.model v.model (states n v t) (known _ _ _ c.requires) p b (place_of s.place) (row_of s.record) c.in_ok-spot.ensures (sym c.is_set.ensures ∙ c.if-not-is_set.false)
+    get_may n.model v.model (states n v t) (known _ _ _ c.requires) p b (place_of s.place) (row_of s.node) c.in_ok-spot.ensures (sym c.is_set.ensures ∙ c.if-not-is_set.false)

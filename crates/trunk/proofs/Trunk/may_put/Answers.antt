@@ -18,7 +18,7 @@ returns-then-is_set g c =
     let p = c.args.path.now in
     let b = c.args.bit.number in
     let s = c.in_ok-spot.spot in
-    put_taken n.model v.model (states n v t) (known _ _ _ c.requires) p b (place_of s.place) (row_of s.record) c.in_ok-spot.ensures (sym c.is_set.ensures ∙ c.if-is_set.true)
+    put_taken n.model v.model (states n v t) (known _ _ _ c.requires) p b (place_of s.place) (row_of s.node) c.in_ok-spot.ensures (sym c.is_set.ensures ∙ c.if-is_set.true)
 
 pub returns-in_err-map_err : goal.returns-in_err-map_err
 returns-in_err-map_err g c =
@@ -29,7 +29,7 @@ returns-in_err-map_err g c =
     let b = c.args.bit.number in
     let s = c.in_ok-spot.spot in
     let why : put_no n.model v.model (states n v t) p b ≡ inside 10 (grows v.model (v.state t.values) (rank c.data-data.result.bitmap 32)) =
-    rw c.data-data.ensures.bitmap (put_clear n.model v.model (states n v t) (known _ _ _ c.requires) p b (place_of s.place) (row_of s.record) c.in_ok-spot.ensures (sym c.is_set.ensures ∙ c.if-is_set.false)) in
+    rw c.data-data.ensures.bitmap (put_clear n.model v.model (states n v t) (known _ _ _ c.requires) p b (place_of s.place) (row_of s.node) c.in_ok-spot.ensures (sym c.is_set.ensures ∙ c.if-is_set.false)) in
     search (rules, why)
 
 pub returns : goal.returns
@@ -41,4 +41,4 @@ returns g c =
     let b = c.args.bit.number in
     let s = c.in_ok-spot.spot in
     let yes : grows v.model (v.state t.values) (rank c.data-data.result.bitmap 32) ≡ None = search rules in
-    put_may n.model v.model (states n v t) (known _ _ _ c.requires) p b (place_of s.place) (row_of s.record) c.in_ok-spot.ensures (sym c.is_set.ensures ∙ c.if-is_set.false) (rw c.data-data.ensures.bitmap at yes)
+    put_may n.model v.model (states n v t) (known _ _ _ c.requires) p b (place_of s.place) (row_of s.node) c.in_ok-spot.ensures (sym c.is_set.ensures ∙ c.if-is_set.false) (rw c.data-data.ensures.bitmap at yes)

@@ -19,7 +19,7 @@ returns-in_err-map_err g c =
     let b = c.args.bit.number in
     let s = c.in_ok-spot.spot in
     let why : take_no n.model v.model (states n v t) p b ≡ inside 10 (shrinks v.model (v.state t.values) (rank c.data-data.result.bitmap 32)) =
-    rw c.data-data.ensures.bitmap (take_set n.model v.model (states n v t) (known _ _ _ c.requires) p b (place_of s.place) (row_of s.record) c.in_ok-spot.ensures.at c.in_ok-spot.ensures) in
+    rw c.data-data.ensures.bitmap (take_set n.model v.model (states n v t) (known _ _ _ c.requires) p b (place_of s.place) (row_of s.node) c.in_ok-spot.ensures.at c.in_ok-spot.ensures) in
     search (rules, why)
 
 pub returns : goal.returns
@@ -31,4 +31,4 @@ returns g c =
     let b = c.args.bit.number in
     let s = c.in_ok-spot.spot in
     let yes : shrinks v.model (v.state t.values) (rank c.data-data.result.bitmap 32) ≡ None = search rules in
-    take_may n.model v.model (states n v t) (known _ _ _ c.requires) p b (place_of s.place) (row_of s.record) c.in_ok-spot.ensures.at c.in_ok-spot.ensures (rw c.data-data.ensures.bitmap at yes)
+    take_may n.model v.model (states n v t) (known _ _ _ c.requires) p b (place_of s.place) (row_of s.node) c.in_ok-spot.ensures.at c.in_ok-spot.ensures (rw c.data-data.ensures.bitmap at yes)

@@ -21,6 +21,6 @@ returns g c =
     let root = row_of t.root in
     MatchResult-weaker c.follow.result c.follow.ensures
     (λ s e.
-    let f = way_find nodes root p (place_of s.place) (row_of s.record) e in
-    (path_there (tree n v t) p good (node_has nodes vals root (known _ _ _ c.requires) p (place_of s.place) (row_of s.record) e), record { found = f; shown = show_law nodes vals root p (row_of s.record) (known _ _ _ c.requires) f }))
+    let f = way_find nodes root p (place_of s.place) (row_of s.node) e in
+    (path_there (tree n v t) p good (node_has nodes vals root (known _ _ _ c.requires) p (place_of s.place) (row_of s.node) e), record { found = f; shown = show_law nodes vals root p (row_of s.node) (known _ _ _ c.requires) f }))
     (λ f e. path_node (tree n v t) p good ∙ e)

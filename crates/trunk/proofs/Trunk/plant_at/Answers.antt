@@ -23,9 +23,9 @@ grow_child-child-requires g c =
     let sd = valid n v g.met.N.Runs.valid g.met.V.Runs.valid t c.requires.sound in
     let m = c.requires.may.1.add in
     record {
-      growth = child_granted n.model v.model _ _ _ _ g.met.N.Runs.lawful g.met.V.Runs.lawful (states n v t) sd c.requires.may.0 b (place_of s.place) (row_of s.record) m;
-      write = parent_granted n.model v.model _ _ _ _ g.met.N.Runs.lawful g.met.V.Runs.lawful (states n v t) sd c.requires.may.0 b (place_of s.place) (row_of s.record) m;
-      passes = root_there n.model v.model _ _ _ _ _ _ (add_arrives n.model v.model _ _ _ _ g.met.N.Runs.lawful g.met.V.Runs.lawful (states n v t) sd c.requires.may.0 b (place_of s.place) (row_of s.record) m);
+      growth = child_granted n.model v.model _ _ _ _ g.met.N.Runs.lawful g.met.V.Runs.lawful (states n v t) sd c.requires.may.0 b (place_of s.place) (row_of s.node) m;
+      write = parent_granted n.model v.model _ _ _ _ g.met.N.Runs.lawful g.met.V.Runs.lawful (states n v t) sd c.requires.may.0 b (place_of s.place) (row_of s.node) m;
+      passes = root_there n.model v.model _ _ _ _ _ _ (add_arrives n.model v.model _ _ _ _ g.met.N.Runs.lawful g.met.V.Runs.lawful (states n v t) sd c.requires.may.0 b (place_of s.place) (row_of s.node) m);
     }
 
 pub set_value-requires : goal.set_value-requires
@@ -45,10 +45,10 @@ set_value-requires g c =
       growth = ap (λ (r : NodeRow). no_growth g.V.Runs.model (g.V.Runs.state c.grow_child-child.new.self.values) r.data_bitmap r.data_index (rank r.data_bitmap 0)) new.row
           ∙ ap (λ (y : g.row.V.Denot). grows g.V.Runs.model (g.V.Runs.state y) 0) new.values ∙ m.granted;
       write = ap (λ (st : States g.N.Runs.State g.V.Runs.State). no_write g.N.Runs.model st.nodes (place_of c.grow_child-child.result.place)) new.after
-          ∙ ap (λ (pl : Place). no_write g.N.Runs.model (add_at g.N.Runs.model g.V.Runs.model (states g.N.Runs g.V.Runs c.args.self.now) (place_of c.args.spot.place) (row_of c.args.spot.record) c.args.bit.number).nodes pl) new.place
-          ∙ new_child_granted n.model v.model _ _ _ _ g.met.N.Runs.lawful g.met.V.Runs.lawful (states n v t) sd c.requires.may.0 b (place_of s.place) (row_of s.record) m.add;
-      passes = subst Passes (sym (ap (λ (st : States g.N.Runs.State g.V.Runs.State). st.root) (plant_is n.model v.model (states n v t) (place_of s.place) (row_of s.record) b x (states n v t1) (put_at n.model v.model (states n v t1) (place_of kid.place) (row_of kid.record) 0 x) (place_of kid.place) (row_of kid.record) new.after new.place new.row refl)))
-          (root_there n.model v.model _ _ _ _ _ _ (plant_arrives n.model v.model _ _ _ _ g.met.N.Runs.lawful g.met.V.Runs.lawful (states n v t) sd c.requires.may.0 b (place_of s.place) (row_of s.record) x m));
+          ∙ ap (λ (pl : Place). no_write g.N.Runs.model (add_at g.N.Runs.model g.V.Runs.model (states g.N.Runs g.V.Runs c.args.self.now) (place_of c.args.spot.place) (row_of c.args.spot.node) c.args.bit.number).nodes pl) new.place
+          ∙ new_child_granted n.model v.model _ _ _ _ g.met.N.Runs.lawful g.met.V.Runs.lawful (states n v t) sd c.requires.may.0 b (place_of s.place) (row_of s.node) m.add;
+      passes = subst Passes (sym (ap (λ (st : States g.N.Runs.State g.V.Runs.State). st.root) (plant_is n.model v.model (states n v t) (place_of s.place) (row_of s.node) b x (states n v t1) (put_at n.model v.model (states n v t1) (place_of kid.place) (row_of kid.node) 0 x) (place_of kid.place) (row_of kid.node) new.after new.place new.row refl)))
+          (root_there n.model v.model _ _ _ _ _ _ (plant_arrives n.model v.model _ _ _ _ g.met.N.Runs.lawful g.met.V.Runs.lawful (states n v t) sd c.requires.may.0 b (place_of s.place) (row_of s.node) x m));
     }
 
 pub returns : goal.returns
@@ -65,5 +65,5 @@ returns g c p m =
     let new = c.grow_child-child.ensures in
     let u = c.set_value.new.self in
     done n v t u tt
-    (plant_is n.model v.model (states n v t) (place_of s.place) (row_of s.record) b x (states n v t1) (states n v u) (place_of kid.place) (row_of kid.record) new.after new.place new.row c.set_value.ensures)
-    (plant_arrives n.model v.model _ _ _ _ g.met.N.Runs.lawful g.met.V.Runs.lawful (states n v t) sd p b (place_of s.place) (row_of s.record) x m) tt
+    (plant_is n.model v.model (states n v t) (place_of s.place) (row_of s.node) b x (states n v t1) (states n v u) (place_of kid.place) (row_of kid.node) new.after new.place new.row c.set_value.ensures)
+    (plant_arrives n.model v.model _ _ _ _ g.met.N.Runs.lawful g.met.V.Runs.lawful (states n v t) sd p b (place_of s.place) (row_of s.node) x m) tt

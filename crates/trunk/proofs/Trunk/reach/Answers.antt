@@ -18,5 +18,5 @@ returns g c =
     let w = c.args.width in
     let good = c.in_ok-read_path.ensures in
     MatchResult-weaker c.follow.result c.follow.ensures
-    (λ s e. reached n.model v.model (states n v t) (known _ _ _ c.requires) p b (place_of s.place) (row_of s.record) w good c.if-bit-width.false e)
+    (λ s e. reached n.model v.model (states n v t) (known _ _ _ c.requires) p b (place_of s.place) (row_of s.node) w good c.if-bit-width.false e)
     (λ f e. place_node (tree n v t) p b w good c.if-bit-width.false ∙ e)

@@ -17,7 +17,7 @@ unwrap-value-requires g c =
     let s = c.args.spot in
     let b = c.args.bit.number in
     let sd = valid n v g.met.N.Runs.valid g.met.V.Runs.valid t c.requires.sound in
-    granted_ok _ _ _ c.shrink.result c.shrink.ensures.answer (rw (c.data.ensures.bitmap, c.data.ensures.index) (removal_granted n.model v.model _ _ _ _ g.met.N.Runs.lawful g.met.V.Runs.lawful (states n v t) sd c.requires.may.0 b (place_of s.place) (row_of s.record) c.requires.may.1))
+    granted_ok _ _ _ c.shrink.result c.shrink.ensures.answer (rw (c.data.ensures.bitmap, c.data.ensures.index) (removal_granted n.model v.model _ _ _ _ g.met.N.Runs.lawful g.met.V.Runs.lawful (states n v t) sd c.requires.may.0 b (place_of s.place) (row_of s.node) c.requires.may.1))
 
 pub write-requires : goal.write-requires
 write-requires g c =
@@ -30,9 +30,9 @@ write-requires g c =
     let m = c.requires.may.1 in
     let a = rw (c.data.ensures.bitmap, c.data.ensures.index) at (answered _ _ _ c.shrink.result c.unwrap-value.result c.unwrap-value.ensures c.shrink.ensures.answer) in
     record {
-      granted = write_granted n.model v.model _ _ _ _ g.met.N.Runs.lawful g.met.V.Runs.lawful (states n v t) sd c.requires.may.0 b (place_of s.place) (row_of s.record) m.at.way;
-      passes = rw c.with_data.ensures (subst Passes (sym (take_root n.model v.model (states n v t) (place_of s.place) (row_of s.record) b _ _ a.1 a.2))
-          (root_there n.model v.model _ _ _ _ _ _ (take_arrives n.model v.model _ _ _ _ g.met.N.Runs.lawful g.met.V.Runs.lawful (states n v t) sd c.requires.may.0 b (place_of s.place) (row_of s.record) m)));
+      granted = write_granted n.model v.model _ _ _ _ g.met.N.Runs.lawful g.met.V.Runs.lawful (states n v t) sd c.requires.may.0 b (place_of s.place) (row_of s.node) m.at.way;
+      passes = rw c.with_data.ensures (subst Passes (sym (take_root n.model v.model (states n v t) (place_of s.place) (row_of s.node) b _ _ a.1 a.2))
+          (root_there n.model v.model _ _ _ _ _ _ (take_arrives n.model v.model _ _ _ _ g.met.N.Runs.lawful g.met.V.Runs.lawful (states n v t) sd c.requires.may.0 b (place_of s.place) (row_of s.node) m)));
     }
 
 pub returns : goal.returns
@@ -45,9 +45,9 @@ returns g c p m =
     let sd = valid n v g.met.N.Runs.valid g.met.V.Runs.valid t c.requires.sound in
     let u = c.write.new.self in
     let a = rw (c.data.ensures.bitmap, c.data.ensures.index) at (answered _ _ _ c.shrink.result c.unwrap-value.result c.unwrap-value.ensures c.shrink.ensures.answer) in
-    let went = rw (c.data.ensures.bitmap, c.data.ensures.index) at (accepted c.shrink.ensures.called (rw (c.data.ensures.bitmap, c.data.ensures.index) (removal_granted n.model v.model _ _ _ _ g.met.N.Runs.lawful g.met.V.Runs.lawful (states n v t) sd p b (place_of s.place) (row_of s.record) m))) in
+    let went = rw (c.data.ensures.bitmap, c.data.ensures.index) at (accepted c.shrink.ensures.called (rw (c.data.ensures.bitmap, c.data.ensures.index) (removal_granted n.model v.model _ _ _ _ g.met.N.Runs.lawful g.met.V.Runs.lawful (states n v t) sd p b (place_of s.place) (row_of s.node) m))) in
     done n v t u c.unwrap-value.result.0
-    (take_is n.model v.model (states n v t) (place_of s.place) (row_of s.record) b (n.state u.nodes) (v.state u.values) (row_of u.root) _ _ a.1
+    (take_is n.model v.model (states n v t) (place_of s.place) (row_of s.node) b (n.state u.nodes) (v.state u.values) (row_of u.root) _ _ a.1
     (ap v.state c.write.ensures.values ∙ went) a.2 (rw c.with_data.ensures at c.write.ensures.nodes) (rw c.with_data.ensures at c.write.ensures.root))
-    (take_arrives n.model v.model _ _ _ _ g.met.N.Runs.lawful g.met.V.Runs.lawful (states n v t) sd p b (place_of s.place) (row_of s.record) m)
-    (taken_is n.model v.model _ _ _ _ g.met.N.Runs.lawful g.met.V.Runs.lawful (states n v t) sd p b (place_of s.place) (row_of s.record) c.unwrap-value.result.0 m a.0)
+    (take_arrives n.model v.model _ _ _ _ g.met.N.Runs.lawful g.met.V.Runs.lawful (states n v t) sd p b (place_of s.place) (row_of s.node) m)
+    (taken_is n.model v.model _ _ _ _ g.met.N.Runs.lawful g.met.V.Runs.lawful (states n v t) sd p b (place_of s.place) (row_of s.node) c.unwrap-value.result.0 m a.0)
