@@ -4,8 +4,7 @@ use Rattle.runs.specs.Calls.{Tells}
 use Rattle.runs.specs.Refusals.{Refusal, refusal, Grant}
 use Rattle.runs.specs.Runs.{count}
 use Rattle.runs.specs.declared.entry.NodeRow.{NodeRow}
-use Rattle.runs.specs.declared.index.Index.{Index}
-use Rattle.runs.specs.declared.index.Nodes.{Nodes}
+use Rattle.runs.specs.declared.index.NodeIndex.{NodeIndex}
 use Rattle.runs.specs.declared.store.Runs.{Ghosts}
 use Rattle.table_model.specs.Refusals.{no_start}
 use Rattle.table_model.specs.Table.{bare_row}
@@ -14,7 +13,7 @@ use Rattle.trunk.specs.Meaning.{states, tree, Sound}
 use Rattle.table.specs.declared.Table.{Table}
 use Rattle.table.specs.declared.NotStarted.{NotStarted}
 
-module _ {E Ix N V : Type 0} (n : Ghosts N NodeRow (Index Nodes)) (v : Ghosts V E Ix) where
+module _ {E Ix N V : Type 0} (n : Ghosts N NodeRow NodeIndex) (v : Ghosts V E Ix) where
   -- refused where a store has a live run
   abbrev pub start_no : N → V → Grant
   start_no x y = no_start (count (n.model.live (n.state x))) (count (v.model.live (v.state y)))
