@@ -68,12 +68,7 @@ pub fn play_lines<
     E: Value,
     N: RunStore<Item = NodeRow> + Claims + Drop,
     V: RunStore<Item = E> + Claims + Drop,
->(
-    rt: &HostRuntime,
-    lines: &[Line],
-    nodes: N,
-    values: V,
-) -> io::Result<()> {
+>(rt: &HostRuntime, lines: &[Line], nodes: N, values: V) -> io::Result<()> {
     match start(nodes, values) {
         Ok(mut table) => {
             for line in lines {
