@@ -4,7 +4,7 @@ use Rattle.bitmap.specs.Ranks.{rank, with_bit, without_bit}
 use Rattle.runs.specs.Runs.{Model}
 use Rattle.runs.specs.declared.entry.NodeRow.{NodeRow}
 use Rattle.table_model.specs.Table.{bare_row}
-use Rattle.table_model.specs.States.{Place, slot, Table, with_data, with_children, grown, child_run, written_nodes, written_root, put_at, take_at, add_at, plant_at, drop_at}
+use Rattle.table_model.specs.States.{Place, slot, Table, with_data, with_children, child_run, written_nodes, written_root, put_at, take_at, add_at, plant_at, drop_at}
 
 pub states_are : {N S : Type 0} (n1 n2 : N) (v1 v2 : S) (r1 r2 : NodeRow) → n1 ≡ n2 → v1 ≡ v2 → r1 ≡ r2 → ◌≡◌ {A = Table N S} (record { nodes = n1; vals = v1; root = r1 }) (record { nodes = n2; vals = v2; root = r2 })
 states_are n1 n2 v1 v2 r1 r2 a b c = λ i. record { nodes = a i; vals = b i; root = c i }
