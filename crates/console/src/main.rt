@@ -68,6 +68,7 @@ fn main(rt: HostRuntime) -> io::Result<()> {
         stream = true;
     }
     let lines = read_lines(&rt)?;
+    // the kind of value is known from here on
     if stream {
         play_script::<StreamRecord>(&rt, &lines)
     } else {

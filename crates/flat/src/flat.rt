@@ -19,12 +19,13 @@ use runs::store::{RunStore, Runs};
 
 #[derive(Drop)]
 pub struct Flat<'a, E: Entry> {
+    // two slices and links by number: the memory is lent, and there is no heap
     cells: &'a mut [E],
     // a word a cell: the length of the run that begins there, and 64 times the link to the group freed before this one
     ledger: &'a mut [u64],
     // how many cells have ever been in a group
     claimed: u32,
-    // the group freed last, its index and 1; 0 for none
+    // the link to the group freed last, coded as in a ledger word: its index and 1, or 0 for none
     head: u32,
     // how many runs are live
     runs: u32,
@@ -112,7 +113,7 @@ impl<'a, E: Entry> Flat<'a, E> {
         }
     }
 
-    // The entry at a slot of a run.
+    // The entry at a slot of a run. (One line over fields of this store's own, here and in a tiered one: a shared function would take both and say the same.)
     fn read(&self, at: u32, slot: u32) -> E
         requires slot { slot < length ((store_state self.now).live at) }
         ensures { nth ((store_state self.now).live at) slot ≡ Some result }
@@ -182,6 +183,7 @@ impl<'a, E: Entry> Flat<'a, E> {
     }
 }
 
+// A tiered store has the same two or three lines for a call, and steps of its own below them: crates/tiered/src/store.rt says why they stand twice.
 impl<'a, E: Entry> RunStore for Flat<'a, E> {
     fn entry(&self, at: E::Index, slot: Slot) -> Result<E, StoreFault> {
         self.may_read(at, slot)?;

@@ -74,7 +74,7 @@ impl NodeRecord {
         }
     }
 
-    // The data bitmap and the run of values.
+    // The data bitmap and the run of values. (Two functions here and two below: one would only match on which part is meant.)
     pub fn data(self) -> Part
         ensures bitmap { result.bitmap ≡ self.data_bitmap }
         ensures index { result.index ≡ self.data_index.number }

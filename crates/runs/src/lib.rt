@@ -6,6 +6,7 @@ pub mod capacity;
 pub mod entry;
 pub mod fault;
 pub mod index;
+pub mod ledger;
 pub mod lent;
 pub mod shift;
 pub mod store;

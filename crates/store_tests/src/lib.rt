@@ -20,6 +20,7 @@ pub fn fill<E: Entry, S: RunStore<Item = E>>(store: &mut S, e: E, n: u32) -> u32
         return 0;
     }
     let Ok(mut at) = store.open(e) else { return 0 };
+    // the slot that is the run's length, and no place in a list
     for k in 1..n {
         match store.insert(at, Slot { number: k }, e) {
             Ok(i) => at = i,

@@ -23,10 +23,13 @@ pub mod store;
 
 #[derive(Drop)]
 pub struct Tiered<'a, E: Entry> {
+    // two slices and links by number: the memory is lent, and there is no heap
     cells: &'a mut [E],
     ledger: &'a mut [u64],
     claimed: u32,
+    // for each size the link to the group freed last, coded as in a ledger word: its index and 1, or 0 for none
     heads: [u32; 33],
+    // how many runs are live
     runs: u32,
     // the memory agrees with itself
     ghost sound: { ∥ Sound E.LONGEST cells.now ledger.now claimed heads runs ∥₁ },
@@ -36,6 +39,7 @@ impl<'a, E: Entry> Tiered<'a, E> {
     ghost use Rattle.tiered.specs.Meaning.{store_state};
 
     // A store with no run over cells and a ledger of one word a cell; with no cells where the two differ in length or are too long.
+    // (A flat store's `new` is the same: what a lent slice holds can't be promised where a shared function would hand it back.)
     pub fn new(cells: &'a mut [E], ledger: &'a mut [u64]) -> Tiered<'a, E>
         ensures after { store_state result ≡ fresh (taken (length cells.old) (length ledger.old)) }
     {
@@ -129,7 +133,7 @@ impl<'a, E: Entry> Tiered<'a, E> {
         self.ledger[at as usize] = m as u64;
     }
 
-    // The entry at a slot of a run.
+    // The entry at a slot of a run. (One line over fields of this store's own, here and in a flat one: a shared function would take both and say the same.)
     fn read(&self, at: u32, slot: u32) -> E
         requires slot { slot < length ((store_state self.now).live at) }
         ensures { nth ((store_state self.now).live at) slot ≡ Some result }

@@ -10,6 +10,7 @@ use bitmap::Slot;
 use runs::entry::Entry;
 use runs::fault::StoreFault;
 use runs::index::RunIndex;
+use runs::ledger::run_length;
 use runs::store::{RunStore, Runs};
 
 impl<'a, E: Entry> Tiered<'a, E> {
@@ -46,10 +47,7 @@ impl<'a, E: Entry> Runs for Tiered<'a, E> {
     }
 
     fn length(&self, at: E::Index) -> u32 {
-        match self.ledger.get(at.number() as usize) {
-            Some(word) => (*word % 64) as u32,
-            None => 0,
-        }
+        run_length(self.ledger, at.number())
     }
 
     fn grow(&self, n: u32) -> Result<(), StoreFault> {
@@ -77,6 +75,8 @@ impl<'a, E: Entry> Runs for Tiered<'a, E> {
     ghost valid = { λ t. (known E.Entry.LONGEST _ _ _ _ _ t.sound).valid };
 }
 
+// A flat store has the same two or three lines for a call, and steps of its own below them. To write the lines once, the steps would have to be
+// public functions of a trait, which ask for what was judged; no public function of a store asks for anything.
 impl<'a, E: Entry> RunStore for Tiered<'a, E> {
     fn entry(&self, at: E::Index, slot: Slot) -> Result<E, StoreFault> {
         self.may_read(at, slot)?;

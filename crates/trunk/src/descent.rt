@@ -64,6 +64,7 @@ impl<E: Entry, N: RunStore<Item = NodeRow>, V: RunStore<Item = E>> Trunk<N, V> {
             place: None,
             node: self.root,
         };
+        // the place of a byte is what a refusal answers: how many child bits were followed
         for (i, b) in path.iter().enumerate() {
             let bit = Bit { number: *b as u32 };
             spot = self.child(spot, bit).ok_or(Fault::NoNode(i as u32))?;

@@ -8,6 +8,7 @@ use super::Flat;
 use runs::entry::Entry;
 use runs::fault::StoreFault;
 use runs::index::RunIndex;
+use runs::ledger::run_length;
 use runs::store::Runs;
 
 impl<'a, E: Entry> Flat<'a, E> {
@@ -50,10 +51,7 @@ impl<'a, E: Entry> Runs for Flat<'a, E> {
     }
 
     fn length(&self, at: E::Index) -> u32 {
-        match self.ledger.get(at.number() as usize) {
-            Some(word) => (*word % 64) as u32,
-            None => 0,
-        }
+        run_length(self.ledger, at.number())
     }
 
     // Only the first entry needs a group.
