@@ -1,4 +1,6 @@
 // What the lines of a script say: a start, which names two stores, or a call.
+ghost use Rattle.std.specs.Prelude.{◌≡◌, ◌≤◌};
+
 use arrayvec::{ArrayVec, CapacityError};
 use bitmap::Bit;
 use std::num::ParseIntError;
@@ -34,7 +36,9 @@ pub struct Steps {
 }
 
 impl Steps {
-    pub fn bytes(&self) -> &[u8] {
+    pub fn bytes(&self) -> &[u8]
+        ensures { result.now ≡ self.now.bytes.items }
+    {
         self.bytes.as_slice()
     }
 }
@@ -127,6 +131,8 @@ pub struct StoreKind {
     pub cells: usize,
     pub inner: Option<u32>,
     pub outer: Option<u32>,
+    // as many as there are indexes
+    ghost few: { cells ≤ 16777216 },
 }
 
 // The limit that a name begins with, if it does, and the name of the store below.

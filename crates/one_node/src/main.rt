@@ -28,13 +28,12 @@ fn no_mapping() -> Node {
 
 impl<'a, 'b> Show<'a, 'b> {
     // A bit with its record, if it has one.
-    fn print_mapping(&self, node: Node, b: u32) -> io::Result<()> {
-        let bit = Bit { number: b };
+    fn print_mapping(&self, node: Node, bit: Bit) -> io::Result<()> {
         if !is_set(node.bitmap, bit) {
             return Ok(());
         }
         match self.store.entry(node.index, compute_slot(node.bitmap, bit)) {
-            Ok(stream) => print!(self.rt; " {b}={stream}"),
+            Ok(stream) => print!(self.rt; " {}={stream}", bit.number),
             Err(fault) => println!(self.rt; "  refused {fault}"),
         }
     }
@@ -47,9 +46,8 @@ impl<'a, 'b> Show<'a, 'b> {
         } else {
             print!(self.rt; "index {}, claimed {claimed}:", node.index)?;
         }
-        // the number of a bit, and no place in a list
-        for b in 0..32 {
-            self.print_mapping(node, b)?;
+        for bit in (0..32).map(|number| Bit { number }) {
+            self.print_mapping(node, bit)?;
         }
         println!(self.rt; "")
     }

@@ -81,9 +81,8 @@ impl<'a> Play<'a> {
     fn play<S: RunStore<Item = u32>>(&self, store: &mut S) -> io::Result<()> {
         print!(self.rt; "{}", self.name)?;
         let mut at = self.index(store.open(10), CellIndex::empty())?;
-        // a slot and its entry, and no place in a list
-        for k in 1..5u32 {
-            at = self.index(store.insert(at, Slot { number: k }, 10 + k), at)?;
+        for (number, e) in (1..5).zip([11, 12, 13, 14]) {
+            at = self.index(store.insert(at, Slot { number }, e), at)?;
         }
         self.index(store.open(20), at)?;
         match store.exchange(at, Slot { number: 0 }, 30) {

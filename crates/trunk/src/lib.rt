@@ -9,6 +9,7 @@ pub mod steps;
 
 use nodes::record::NodeRecord;
 
+// A trunk agrees with its stores before a call and after it, not within one: so the steps ask for it by a clause, and a table's type has it.
 #[derive(Drop)]
 pub struct Trunk<N, V> {
     pub nodes: N,
