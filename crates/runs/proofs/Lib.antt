@@ -3,5 +3,4 @@ pub mod Tiers
 pub mod Sizes
 pub mod Counts
 pub mod Known
-pub mod Nths
 pub mod Shifts

@@ -9,7 +9,7 @@ use Rattle.table_model.specs.Tree.{Path, Tree, followed}
 use Rattle.table_model.specs.Table.{is_some, child, find, Agrees}
 use Rattle.table_model.specs.Refusals.{first, when, inside, bad_path, value_count, child_count, is_bare, no_node, no_path, no_place}
 use Rattle.table_model.specs.States.{Place, Table, tree_in}
-use Rattle.table_model.specs.Calls.{way, get_no, put_no, take_no, add_no, plant_no, drop_no}
+use Rattle.table_model.specs.Calls.{way, get_no, put_no, take_no, add_no, drop_no}
 use Rattle.table_model.specs.Judged.{Reached, MayGet, MayPut, MayTake, MayAdd, MayDrop}
 use Rattle.table_model.proofs.Nodes.{node_has, value_bit, child_bit, narrow, values_counted, children_counted, child_found, child_lost, bare_is, bare_not, bare_row_is}
 
@@ -127,10 +127,6 @@ module _ {V N S : Type 0} (mn : Model NodeRow N) (mv : Model V S) (t : Table N S
 
     pub add_may : length p < 25 → is_set r.child_bitmap b ≡ false → grows mn t.nodes (rank r.child_bitmap 32) ≡ None → MayAdd mn mv t p b pl r
     add_may l e y = record { passed = add_clear l e ∙ ap (inside 9) y; at = at; short = l; clear = e; granted = y }
-
-    -- plant
-    pub plant_asks : MayAdd mn mv t p b pl r → plant_no mn mv t p b ≡ inside 10 (grows mv t.vals 0)
-    plant_asks m = ap (λ (g : Grant). first g (inside 10 (grows mv t.vals 0))) m.passed
 
     -- drop
     drop_after : Bool → Bool → ℕ → Grant

@@ -1,15 +1,13 @@
 -- The cells of one run written: an entry, a gap opened or closed, entries copied from another run.
-use Rattle.std.proofs.Common.{◌≡◌, ℕ, ◌+◌, ◌-◌, ◌<◌, ◌≤◌, ◌⊎◌, List, ◌++◌, length, get_or, take, drop, set, Some, None, sym, refl, ap, ◌∙◌, subst, inl, inr, ⊎_elim, add-one, arith, length-append, length-drop, length-set, get_or-set_other, get_or-set_same}
+use Rattle.std.proofs.Common.{◌≡◌, ℕ, ◌+◌, ◌-◌, ◌<◌, ◌≤◌, ◌⊎◌, List, ◌++◌, length, get_or, take, drop, set, sym, refl, ap, ◌∙◌, subst, inl, inr, ⊎_elim, add-one, arith, length-append, length-drop, length-set, get_or-set_other, get_or-set_same}
 use Rattle.std.specs.List.{remove}
 use Rattle.std.proofs.lemmas.Bool.{cases_eq, cases_lt}
 use Rattle.std.proofs.lemmas.List.{same_lists, length-take-le, get_or-take, get_or-drop, get_or_append_left, get_or-append_right, take-take}
 use Rattle.std.proofs.lemmas.List.Edits.{length-remove, get_or-remove_below, get_or-remove_above}
 use Rattle.runs.specs.Lists.{with_new, without}
 use Rattle.tiered_model.specs.Tiered.{kept}
-use Rattle.runs.specs.Lists.{nth}
-use Rattle.runs.proofs.Nths.{nth_read, nth_get, nth_some}
 use Rattle.runs.specs.Shift.{Right, Left, Copied}
-use Rattle.tiered_model.specs.Ledger.{len_w, run_at, state_of, Sound}
+use Rattle.tiered_model.specs.Ledger.{run_at, state_of, Sound}
 use Rattle.tiered_model.proofs.Gaps.{window_len, window_at, gap_run, gap_rest}
 use Rattle.tiered_model.proofs.Changes.{rewritten, live_low}
 use Rattle.tiered_model.specs.Laws.{of_run}
@@ -83,14 +81,6 @@ module _ {E : Type 0} (longest : ℕ) (la : 31 ≤ longest) (lb : longest ≤ 32
   copy_apart i j k p hi hj ne =
       let P = placed longest la lb (state_of C L c H) s.valid in
       elim (P.apart i j _ _ (of_run (omega arith) refl) (of_run (omega arith) refl) ne) [ inl x ↦ inl (omega (arith, P.room i)) | inr x ↦ inr (omega (arith, P.room j)) ]
-
-  -- what is read at a slot's cell is the entry
-  pub read_at : (i k : ℕ) (x : E) → k < length (run_at C L i) → nth C (i + k) ≡ Some x → nth (run_at C L i) k ≡ Some x
-  read_at i k x h e = nth_read (run_at C L i) k x h (sym (window_at C i (len_w (get_or L i 0)) k x (omega (arith, s.long i)) ∙ nth_get C (i + k) x x e))
-
-  -- and there is a cell to read
-  pub read_some : (i k : ℕ) → k < length (run_at C L i) → nth C (i + k) ≡ None → ⊥
-  read_some i k h e = nth_some C (i + k) (omega (arith, in_cells i (omega arith))) e
 
   module _ (i n : ℕ) (h : length (run_at C L i) ≡ n) where
     changed : (D ys : _) → 1 ≤ n → length D ≡ length C → ((k : ℕ) (d : E) → (k < i) ⊎ (i + n ≤ k) → get_or D k d ≡ get_or C k d) → take n (drop i D) ≡ ys

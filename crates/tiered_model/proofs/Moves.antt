@@ -6,7 +6,7 @@ use Rattle.std.proofs.lemmas.List.{take_all, take-take, take_at, take-append-le,
 use Rattle.runs.specs.Lists.{at, with_new, without}
 use Rattle.runs.specs.Runs.{no_insert, no_remove, grows}
 use Rattle.runs.specs.Sizes.{size}
-use Rattle.tiered_model.specs.Tiered.{State, held, ended, kept, group, has, can, change, moved, moved_to, size_at, put, put_to, tiered, growth, shrinkage}
+use Rattle.tiered_model.specs.Tiered.{State, held, ended, kept, group, has, change, moved, moved_to, size_at, put, put_to, tiered, growth, shrinkage}
 use Rattle.tiered_model.specs.Groups.{Valid}
 use Rattle.runs.proofs.Counts.{put_both, put_same, put_other}
 use Rattle.tiered_model.proofs.Taking.{group_free}
@@ -41,9 +41,6 @@ kept_other {E} s t i j ys e ne = ap (λ (u : State E). u.live i) e ∙ put_other
 
 pub kept_same : {E : Type 0} (s t : State E) (i : ℕ) (ys : List E) → t ≡ kept s i ys → t.live i ≡ ys
 kept_same {E} s t i ys e = ap (λ (u : State E). u.live i) e ∙ put_same s.live i ys
-
-pub change_had : {E : Type 0} (s : State E) (z y : ℕ) → change s z y ≡ None → (z ≡ y → ⊥) → has s y ≡ true
-change_had s z y e ne = (none_else (has s y) (refusal 23 (0 ∷ [])) None (sym (cond-false (eqb z y) None (can s y) (ne_eqb z y ne)) ∙ e)).0
 
 pub change_grows : {E : Type 0} (longest : ℕ) (s : State E) (n : ℕ) → 1 ≤ n → growth longest s n ≡ None → change s (size longest n) (size longest (n + 1)) ≡ None
 change_grows longest s n l e = sym (cond-false (eqb n 0) _ _ (ne_eqb n 0 (λ q. omega arith))) ∙ e

@@ -32,9 +32,6 @@ module _ {E : Type 0} (longest : ℕ) (s : State E) where
   pub shrinks_beyond : (n : ℕ) → longest < n → shrinks (tiered longest) s n ≡ Some (refusal 21 [])
   shrinks_beyond n h = cond-true (ltb 0 n) _ _ (lt-ltb 0 n (omega arith)) ∙ cond-false (leb n (length ((tiered longest).shrink s))) _ _ (lt-leb n _ (omega (arith, shrink_length longest s)))
 
-  pub shrinks_last : (n : ℕ) → n ≡ 1 → 1 ≤ longest → shrinks (tiered longest) s n ≡ None
-  shrinks_last n e h = ap (shrinks (tiered longest) s) e ∙ shrinks_is longest s 1 (omega arith) h
-
   pub shrinks_on : (n : ℕ) → 1 < n → n ≤ longest → change s (size longest n) (size longest (n - 1)) ≡ shrinks (tiered longest) s n
   shrinks_on n l h = sym (shrinks_is longest s n (omega arith) h ∙ cond-false (leb n 1) _ _ (lt-leb n 1 l))
 
@@ -59,9 +56,6 @@ module _ {E : Type 0} (longest : ℕ) (s : State E) where
 
       pub reads : k < length (s.live i) → no_entry (tiered longest) s i k ≡ None
       reads h = alive _ _ ∙ cond-true (ltb k (length (s.live i))) _ _ (lt-ltb k (length (s.live i)) h)
-
-      pub inserts_as : (n : ℕ) → n ≡ length (s.live i) → k ≤ n → grows (tiered longest) s n ≡ no_insert (tiered longest) s i k
-      inserts_as n e h = ap (grows (tiered longest) s) e ∙ sym (alive _ _ ∙ cond-false (ltb (length (s.live i)) k) _ _ (le-ltb (length (s.live i)) k (omega arith)))
 
       pub removes_as : (n : ℕ) → n ≡ length (s.live i) → k < n → shrinks (tiered longest) s n ≡ no_remove (tiered longest) s i k
       removes_as n e h = ap (shrinks (tiered longest) s) e ∙ sym (alive _ _ ∙ cond-true (ltb k (length (s.live i))) _ _ (lt-ltb k (length (s.live i)) (omega arith)))

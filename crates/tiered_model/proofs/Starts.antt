@@ -1,14 +1,13 @@
 -- A store with no run.
-use Rattle.std.proofs.Common.{◌≡◌, ℕ, ◌+◌, ◌<◌, ◌≤◌, ◌&&◌, T, eqb, leb, ◌⊎◌, List, [], length, get_or, take, drop, set, sym, refl, ap, ◌∙◌, subst, inl, inr, ⊎_elim, arith, eqb→eq, get_or-set_other, get_or-set_same}
+use Rattle.std.proofs.Common.{◌≡◌, ℕ, ◌<◌, ◌≤◌, T, eqb, List, [], length, get_or, take, drop, sym, refl, ap, ◌∙◌, subst, ⊎_elim, arith, eqb→eq}
 use mathlib.Core.Path.{fun_ext}
 use Rattle.std.proofs.lemmas.List.{get_or_past}
-use Rattle.std.proofs.lemmas.Bool.{cases_lt, cases_eq, cond-true, cond-false, and_from, and_left, and_right, eq-eqb, ne_eqb, le-leb, lt-leb}
+use Rattle.std.proofs.lemmas.Bool.{cases_lt}
 use Rattle.runs.specs.Runs.{one_run, count}
 use Rattle.tiered_model.specs.Tiered.{State, fresh}
 use Rattle.tiered_model.specs.Groups.{Valid}
 use Rattle.runs.proofs.Counts.{tally_none}
 use Rattle.runs.proofs.Table.{every, at}
-use Rattle.runs.specs.Calls.{taken}
 use Rattle.tiered_model.proofs.Taking.{fresh_valid}
 use Rattle.tiered_model.specs.Ledger.{len_w, run_at, Linked, freed, state_of, Sound}
 use Rattle.tiered_model.proofs.Chains.{chain_is}
@@ -16,12 +15,6 @@ use Rattle.tiered_model.proofs.Changes.{state_is}
 
 pub all_zero : (L : List ℕ) → ((k : ℕ) → k < length L → get_or L k 0 ≡ 0) → (k : ℕ) → get_or L k 0 ≡ 0
 all_zero L h k = ⊎_elim (h k) (λ (l : length L ≤ k). get_or_past L k 0 l) (cases_lt k (length L))
-
-pub zero_more : (L : List ℕ) (i : ℕ) → i < length L → ((k : ℕ) → k < i → get_or L k 0 ≡ 0) → (k : ℕ) → k < i + 1 → get_or (set L i 0) k 0 ≡ 0
-zero_more L i l h k b = elim (cases_eq k i) [
-  | inl e ↦ ap (λ (m : ℕ). get_or (set L i 0) m 0) e ∙ get_or-set_same L i 0 0 l
-  | inr ne ↦ get_or-set_other L i k 0 0 ne ∙ h k (omega (arith, ne))
-]
 
 pub zeros : (H : List ℕ) → T (every (λ _ x. eqb x 0) 0 H) → (z : ℕ) → get_or H z 0 ≡ 0
 zeros H t = all_zero H (λ k h. eqb→eq (get_or H k 0) 0 (at (λ _ x. eqb x 0) H t k h))
@@ -41,10 +34,3 @@ started {E} longest C L H e m zl zh =
         valid = subst (λ (k : State E). Valid longest k) (sym st) (fresh_valid longest (length C) m);
       },
     )
-
-pub taken_all : (a b : ℕ) → a ≡ b → a ≤ 16777216 → taken a b ≡ a
-taken_all a b e h = cond-true (eqb a b && leb a 16777216) a 0 (and_from (eqb a b) (leb a 16777216) (eq-eqb a b e) (le-leb a 16777216 h))
-
-pub taken_none : (a b : ℕ) → (a ≡ b → ⊥) ⊎ (16777216 < a) → taken a b ≡ 0
-taken_none a b (inl ne) = cond-false (eqb a b && leb a 16777216) a 0 (and_left (eqb a b) (leb a 16777216) (ne_eqb a b ne))
-taken_none a b (inr h) = cond-false (eqb a b && leb a 16777216) a 0 (and_right (eqb a b) (leb a 16777216) (lt-leb a 16777216 h))
