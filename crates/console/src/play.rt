@@ -64,7 +64,7 @@ fn play_line<E: Value, N: RunStore<Item = NodeRow> + Claims, V: RunStore<Item = 
 }
 
 // The lines of one history, on a table over two stores.
-pub fn play_lines<
+pub(crate) fn play_lines<
     E: Value,
     N: RunStore<Item = NodeRow> + Claims + Drop,
     V: RunStore<Item = E> + Claims + Drop,

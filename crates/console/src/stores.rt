@@ -115,7 +115,11 @@ impl<'a, E: Value, N: RunStore<Item = NodeRow> + Claims + Drop> Client<E> for Wi
 }
 
 // One history on fresh stores.
-pub fn play_history<E: Value>(rt: &HostRuntime, start: Start, lines: &[Line]) -> io::Result<()> {
+pub(crate) fn play_history<E: Value>(
+    rt: &HostRuntime,
+    start: Start,
+    lines: &[Line],
+) -> io::Result<()> {
     let client = WithNodes::<E> {
         rt,
         lines,
