@@ -7,10 +7,12 @@ mod stores;
 mod value;
 
 use line::{Line, Start};
+use play::History;
 use runs::entry::StreamRecord;
 use std::io::{BufRead, BufReader};
+use std::marker::PhantomData;
 use std::{env, io};
-use stores::play_history;
+use stores::Client;
 use value::Value;
 
 const HELP: &str = "console [--stream] < script
@@ -40,6 +42,16 @@ fn read_lines(rt: &HostRuntime) -> io::Result<Vec<Line>> {
 
 fn is_start(line: &Line) -> bool {
     line.text.parse::<Start>().is_ok()
+}
+
+fn play_history<E: Value>(rt: &HostRuntime, start: Start, lines: &[Line]) -> io::Result<()> {
+    let history = History::<E> {
+        rt,
+        lines,
+        values: start.values,
+        of: PhantomData,
+    };
+    history.with_kind(rt, start.nodes)
 }
 
 // A script is a list of histories: each goes to the next `start`, or to the end.

@@ -1,12 +1,13 @@
 // The lines of one history, played on a table.
-use crate::line::{Call, Line};
-use crate::stores::Claims;
+use crate::line::{Call, Line, StoreKind};
+use crate::stores::{Claims, Client};
 use crate::value::Value;
 use nodes::fault::Fault;
 use runs::entry::NodeRow;
 use runs::store::RunStore;
 use std::fmt::Display;
 use std::io;
+use std::marker::PhantomData;
 use table::Table;
 use table::start::start;
 
@@ -64,7 +65,7 @@ fn play_line<E: Value, N: RunStore<Item = NodeRow> + Claims, V: RunStore<Item = 
 }
 
 // The lines of one history, on a table over two stores.
-pub(crate) fn play_lines<
+fn play_lines<
     E: Value,
     N: RunStore<Item = NodeRow> + Claims + Drop,
     V: RunStore<Item = E> + Claims + Drop,
@@ -77,5 +78,40 @@ pub(crate) fn play_lines<
             Ok(())
         }
         Err(_) => println!(rt; "refused 12"),
+    }
+}
+
+// One history on fresh stores. With the node store, the value store is opened.
+#[derive(Drop)]
+pub struct History<'a, E> {
+    pub rt: &'a HostRuntime,
+    pub lines: &'a [Line],
+    pub values: StoreKind,
+    pub of: PhantomData<E>,
+}
+
+impl<'a, E: Value> Client<NodeRow> for History<'a, E> {
+    fn with<S: RunStore<Item = NodeRow> + Claims + Drop>(self, store: S) -> io::Result<()> {
+        let client = WithNodes {
+            rt: self.rt,
+            lines: self.lines,
+            nodes: store,
+        };
+        Client::<E>::with_kind(client, self.rt, self.values)
+    }
+}
+
+// With both, the lines are played.
+#[derive(Drop)]
+struct WithNodes<'a, N> {
+    rt: &'a HostRuntime,
+    lines: &'a [Line],
+    nodes: N,
+}
+
+impl<'a, E: Value, N: RunStore<Item = NodeRow> + Claims + Drop> Client<E> for WithNodes<'a, N> {
+    fn with<S: RunStore<Item = E> + Claims + Drop>(self, store: S) -> io::Result<()> {
+        let WithNodes { rt, lines, nodes } = self;
+        play_lines(rt, lines, nodes, store)
     }
 }

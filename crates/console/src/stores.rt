@@ -1,13 +1,10 @@
 // Stores by their names in a script. What is done with a store is told once, whatever store it is.
-use crate::line::{Base, Line, Start, StoreKind};
-use crate::play::play_lines;
-use crate::value::Value;
+use crate::line::{Base, StoreKind};
 use flat::flat::Flat;
 use quota::quota::Quota;
-use runs::entry::{Entry, NodeRow};
+use runs::entry::Entry;
 use runs::store::RunStore;
 use std::io;
-use std::marker::PhantomData;
 use tiered::Tiered;
 
 // The claimed cells of a store, or of the one below its quotas.
@@ -34,8 +31,25 @@ impl<E: Entry, S: RunStore<Item = E> + Claims> Claims for Quota<S> {
 }
 
 // What is done with a store of entries.
-trait Client<E: Entry> {
+pub trait Client<E: Entry + Clone + Default>: Drop + Sized {
     fn with<S: RunStore<Item = E> + Claims + Drop>(self, store: S) -> io::Result<()>;
+
+    // With a store of a kind in memory of its own, under its quotas.
+    final fn with_kind(self, rt: &HostRuntime, kind: StoreKind) -> io::Result<()> {
+        let mut cells = vec![in rt.alloc(); E::default(); kind.cells]?;
+        let mut ledger = vec![in rt.alloc(); 0u64; kind.cells]?;
+        let client = Limited {
+            limit: kind.inner,
+            client: Limited {
+                limit: kind.outer,
+                client: self,
+            },
+        };
+        match kind.base {
+            Base::Tiered => client.with(Tiered::new(cells.as_mut_slice(), ledger.as_mut_slice())),
+            Base::Flat => client.with(Flat::new(cells.as_mut_slice(), ledger.as_mut_slice())),
+        }
+    }
 }
 
 // A quota over the store first, where there is a limit. No run is live in it, so it is not refused.
@@ -45,7 +59,7 @@ struct Limited<C> {
     client: C,
 }
 
-impl<E: Entry, C: Client<E> + Drop> Client<E> for Limited<C> {
+impl<E: Entry + Clone + Default, C: Client<E>> Client<E> for Limited<C> {
     fn with<S: RunStore<Item = E> + Claims + Drop>(self, store: S) -> io::Result<()> {
         let Limited { limit, client } = self;
         match limit {
@@ -56,75 +70,4 @@ impl<E: Entry, C: Client<E> + Drop> Client<E> for Limited<C> {
             },
         }
     }
-}
-
-// A store of a kind in memory of its own, under its quotas.
-fn open<E: Entry + Clone + Default, C: Client<E> + Drop>(
-    rt: &HostRuntime,
-    kind: StoreKind,
-    client: C,
-) -> io::Result<()> {
-    let mut cells = vec![in rt.alloc(); E::default(); kind.cells]?;
-    let mut ledger = vec![in rt.alloc(); 0u64; kind.cells]?;
-    let client = Limited {
-        limit: kind.inner,
-        client: Limited {
-            limit: kind.outer,
-            client,
-        },
-    };
-    match kind.base {
-        Base::Tiered => client.with(Tiered::new(cells.as_mut_slice(), ledger.as_mut_slice())),
-        Base::Flat => client.with(Flat::new(cells.as_mut_slice(), ledger.as_mut_slice())),
-    }
-}
-
-// With the node store, the value store is opened.
-#[derive(Drop)]
-struct WithNodes<'a, E> {
-    rt: &'a HostRuntime,
-    lines: &'a [Line],
-    values: StoreKind,
-    of: PhantomData<E>,
-}
-
-impl<'a, E: Value> Client<NodeRow> for WithNodes<'a, E> {
-    fn with<S: RunStore<Item = NodeRow> + Claims + Drop>(self, store: S) -> io::Result<()> {
-        let client = WithBoth {
-            rt: self.rt,
-            lines: self.lines,
-            nodes: store,
-        };
-        open::<E, WithBoth<'a, S>>(self.rt, self.values, client)
-    }
-}
-
-// With both, the lines are played.
-#[derive(Drop)]
-struct WithBoth<'a, N> {
-    rt: &'a HostRuntime,
-    lines: &'a [Line],
-    nodes: N,
-}
-
-impl<'a, E: Value, N: RunStore<Item = NodeRow> + Claims + Drop> Client<E> for WithBoth<'a, N> {
-    fn with<S: RunStore<Item = E> + Claims + Drop>(self, store: S) -> io::Result<()> {
-        let WithBoth { rt, lines, nodes } = self;
-        play_lines(rt, lines, nodes, store)
-    }
-}
-
-// One history on fresh stores.
-pub(crate) fn play_history<E: Value>(
-    rt: &HostRuntime,
-    start: Start,
-    lines: &[Line],
-) -> io::Result<()> {
-    let client = WithNodes::<E> {
-        rt,
-        lines,
-        values: start.values,
-        of: PhantomData,
-    };
-    open(rt, start.nodes, client)
 }
