@@ -77,7 +77,7 @@ fn play_lines<
             }
             Ok(())
         }
-        Err(_) => println!(rt; "refused 12"),
+        Err(back) => println!(rt; "refused {back}"),
     }
 }
 

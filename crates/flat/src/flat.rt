@@ -12,8 +12,8 @@ mod asking;
 use bitmap::Slot;
 use runs::entry::Entry;
 use runs::fault::StoreFault;
-use runs::index::RunIndex;
-use runs::lent::lent;
+use runs::index::{EMPTY, RunIndex};
+use runs::lent::take;
 use runs::shift::{entry_in, shift_left, shift_right};
 use runs::store::{RunStore, Runs};
 
@@ -41,18 +41,7 @@ impl<'a, E: Entry> Flat<'a, E> {
     pub fn new(cells: &'a mut [E], ledger: &'a mut [u64]) -> Flat<'a, E>
         ensures after { store_state result ≡ fresh (taken (length cells.old) (length ledger.old)) }
     {
-        match lent(cells, ledger) {
-            Ok(()) => Flat::over(cells, ledger),
-            Err(_) => Flat::over(&mut cells[..0], &mut ledger[..0]),
-        }
-    }
-
-    fn over(cells: &'a mut [E], ledger: &'a mut [u64]) -> Flat<'a, E>
-        requires same { length ledger.old ≡ length cells.old }
-        requires low { length cells.old ≤ indexes }
-        ensures after { store_state result ≡ fresh (length cells.old) }
-    {
-        ledger.fill(0);
+        let (cells, ledger) = take(cells, ledger);
         Flat {
             cells,
             ledger,
@@ -121,7 +110,7 @@ impl<'a, E: Entry> Flat<'a, E> {
         self.cells[(at + slot) as usize]
     }
 
-    // Writes an entry at a slot of a run.
+    // Writes an entry at a slot of a run. (One line, here and in a tiered store.)
     fn replace(&mut self, at: u32, slot: u32, e: E)
         requires slot { slot < length ((store_state self.old).live at) }
         ensures after { store_state self.new ≡ kept (store_state self.old) at (slice_set ((store_state self.old).live at) slot e) }
@@ -178,7 +167,7 @@ impl<'a, E: Entry> Flat<'a, E> {
             at
         } else {
             self.release(at);
-            u32::MAX
+            EMPTY
         }
     }
 }

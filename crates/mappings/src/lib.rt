@@ -17,7 +17,7 @@ use runs::index::{CellIndex, NodeIndex, RunIndex};
 use runs::store::RunStore;
 
 // The bits that have a mapping, and the run of their records, lowest bit first.
-#[derive(Clone, Copy)]
+#[derive(Clone, Copy, Debug, PartialEq, Eq)]
 pub struct Node {
     pub bitmap: u32,
     pub index: CellIndex,
@@ -53,6 +53,7 @@ pub fn set_mapping<S: RunStore<Item = StreamRecord>>(
     })
 }
 
+// (This and `child_row` are like two functions of a table's parts. A node of its own, without a tree, stands on the stores alone.)
 // The record of a bit is taken out; the answer is the record and the node without it.
 pub fn clear_mapping<S: RunStore<Item = StreamRecord>>(
     store: &mut S,

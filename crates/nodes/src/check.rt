@@ -7,21 +7,11 @@ ghost use Rattle.nodes.specs.Records.{row_of};
 use crate::part::Part;
 use crate::record::NodeRecord;
 use runs::entry::NodeRow;
-use runs::index::{CellIndex, NodeIndex, RunIndex};
-use std::error::Error;
-use std::fmt;
+use runs::index::{CellIndex, EMPTY, NodeIndex, RunIndex};
 
 // A row that is no node's record.
 #[derive(Clone, Copy, Debug, PartialEq, Eq)]
 pub struct NoRecord;
-
-impl fmt::Display for NoRecord {
-    fn fmt<W: fmt::Write>(&self, f: &mut fmt::Formatter<W>) -> fmt::Result {
-        write!(f, "no node record")
-    }
-}
-
-impl Error for NoRecord {}
 
 // The record that a row is, if it passes.
 impl TryFrom<NodeRow> for NodeRecord {
@@ -33,10 +23,10 @@ impl TryFrom<NodeRow> for NodeRecord {
         if row.data_bitmap >= 0x8000_0000 {
             return Err(NoRecord);
         }
-        if (row.data_bitmap == 0) != (row.data_index == u32::MAX) {
+        if (row.data_bitmap == 0) != (row.data_index == EMPTY) {
             return Err(NoRecord);
         }
-        if (row.child_bitmap == 0) != (row.children_index == u32::MAX) {
+        if (row.child_bitmap == 0) != (row.children_index == EMPTY) {
             return Err(NoRecord);
         }
         Ok(NodeRecord {

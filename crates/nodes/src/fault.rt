@@ -37,6 +37,7 @@ pub enum Fault {
 }
 
 impl PathFault {
+    // One of the two things that a refusal tells; a conversion would give it no name.
     pub fn number(self) -> u32
         ensures { result ≡ (told_path self).number }
     {
@@ -60,6 +61,7 @@ impl fmt::Display for PathFault {
 impl Error for PathFault {}
 
 impl Fault {
+    // One of the two things that a refusal tells; a conversion would give it no name.
     pub fn number(self) -> u32
         ensures { result ≡ (told_fault self).number }
     {

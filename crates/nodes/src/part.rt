@@ -15,7 +15,7 @@ use runs::index::RunIndex;
 use runs::store::{RunStore, Runs};
 
 // The run has an entry for each set bit, lowest bit first; with no bit set there is no run, and the index is empty.
-#[derive(Clone, Copy)]
+#[derive(Clone, Copy, Debug, PartialEq, Eq)]
 pub struct Part {
     pub bitmap: u32,
     pub index: u32,

@@ -4,19 +4,19 @@
 
 use bitmap::Slot;
 use flat::flat::Flat;
-use quota::quota::Quota;
+use quota::quota::{Occupied, Quota};
 use runs::fault::StoreFault;
 use runs::index::{CellIndex, RunIndex};
 use runs::store::RunStore;
 use std::io;
 use tiered::Tiered;
 
-// What is done with a store, whatever store it is.
+// What is done with a store, whatever store it is. (The console has the like for stores of any entry that tell what they have claimed.)
 trait Client {
     fn with<S: RunStore<Item = u32> + Drop>(self, store: S) -> io::Result<()>;
 
     // The store has a live run, so that no quota can be put over it.
-    fn refused(self) -> io::Result<()>;
+    fn refused<S: Drop>(self, back: Occupied<S>) -> io::Result<()>;
 }
 
 // A quota over the store first, and then the rest.
@@ -31,12 +31,12 @@ impl<C: Client + Drop> Client for Limited<C> {
         let Limited { limit, then } = self;
         match Quota::start(store, limit) {
             Ok(quota) => then.with(quota),
-            Err(_) => then.refused(),
+            Err(back) => then.refused(back),
         }
     }
 
-    fn refused(self) -> io::Result<()> {
-        self.then.refused()
+    fn refused<S: Drop>(self, back: Occupied<S>) -> io::Result<()> {
+        self.then.refused(back)
     }
 }
 
@@ -53,8 +53,8 @@ impl<'a> Client for Play<'a> {
         self.play(&mut store)
     }
 
-    fn refused(self) -> io::Result<()> {
-        println!(self.rt; "{} | refused 12", self.name)
+    fn refused<S: Drop>(self, back: Occupied<S>) -> io::Result<()> {
+        println!(self.rt; "{} | refused {back}", self.name)
     }
 }
 
@@ -101,7 +101,7 @@ fn under<C>(limit: u32, then: C) -> Limited<C> {
     Limited { limit, then }
 }
 
-// Seven cells hold a run of four, whose first group is free again for a second run of one.
+// (Two lists of piles, this one and the next, over two types of store.) Seven cells hold a run of four, whose first group is free again for a second run of one.
 fn play_tiered(rt: &HostRuntime) -> io::Result<()> {
     let mut cells = [0u32; 7];
     let mut ledger = [0u64; 7];

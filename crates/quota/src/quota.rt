@@ -10,6 +10,7 @@ use bitmap::Slot;
 use runs::entry::Entry;
 use runs::fault::StoreFault;
 use runs::store::{RunStore, Runs};
+use std::fmt;
 
 #[derive(Drop)]
 pub struct Quota<S: Runs> {
@@ -29,10 +30,17 @@ pub struct Occupied<S> {
 impl<S> Occupied<S> {
     ghost use Rattle.quota.specs.Layer.{told_occupied};
 
+    // One of the two things that a refusal tells; a conversion would give it no name.
     pub fn number(&self) -> u32
         ensures { result ≡ (told_occupied self.now).number }
     {
         12
+    }
+}
+
+impl<S> fmt::Display for Occupied<S> {
+    fn fmt<W: fmt::Write>(&self, f: &mut fmt::Formatter<W>) -> fmt::Result {
+        write!(f, "{}", self.number())
     }
 }
 

@@ -10,7 +10,7 @@ const COUNT_TO_TIER: [u8; 25] = [
     0, 0, 1, 2, 2, 3, 3, 3, 3, 4, 4, 4, 4, 4, 4, 4, 4, 5, 5, 5, 5, 5, 5, 5, 5,
 ];
 
-// The size of a run of n entries of a kind whose longest run has `longest`; 0 where no run is so long, as in the definition: the function can't fail.
+// The size of a run of n entries of a kind whose longest run has `longest`; 0 where no run is so long, as in the definition: who asks compares sizes, and nothing else.
 pub fn run_size(longest: u32, n: u32) -> u32
     ensures value { result ≡ size longest n }
     ensures least { 31 ≤ longest → longest ≤ 32 → 1 ≤ n → n ≤ longest → Least longest n result }

@@ -4,8 +4,7 @@ ghost use Rattle.std.proofs.Common.{lit≤};
 ghost use Rattle.runs.specs.Sizes.{size};
 
 use crate::capacity::run_size;
-use crate::index::{CellIndex, NodeIndex, RunIndex};
-use std::error::Error;
+use crate::index::{CellIndex, EMPTY, NodeIndex, RunIndex};
 use std::fmt;
 use std::num::ParseIntError;
 use std::str::FromStr;
@@ -22,7 +21,7 @@ pub trait Entry: Copy {
 
     ghost narrow: { LONGEST ≤ 32 };
 
-    // The size of a run of n entries; 0 where no run is so long.
+    // The size of a run of n entries; 0 where no run is so long, as in the definition: who asks compares sizes, and nothing else.
     final fn size(n: u32) -> u32
         ensures { result ≡ size LONGEST n }
     {
@@ -49,14 +48,6 @@ impl fmt::Display for StreamRecord {
 // A text that is no stream record.
 #[derive(Clone, Copy, Debug, PartialEq, Eq)]
 pub struct NoStream;
-
-impl fmt::Display for NoStream {
-    fn fmt<W: fmt::Write>(&self, f: &mut fmt::Formatter<W>) -> fmt::Result {
-        write!(f, "no stream record")
-    }
-}
-
-impl Error for NoStream {}
 
 impl From<ParseIntError> for NoStream {
     fn from(_: ParseIntError) -> NoStream {
@@ -102,12 +93,16 @@ impl fmt::Display for NodeRow {
 
 // A node with no value and no child.
 impl Default for NodeRow {
+    ghost use Rattle.runs.specs.Lists.{empty};
+
+    ghost is_default = { λ r. r ≡ record { data_bitmap = 0; child_bitmap = 0; data_index = empty; children_index = empty } };
+
     fn default() -> NodeRow {
         NodeRow {
             data_bitmap: 0,
             child_bitmap: 0,
-            data_index: u32::MAX,
-            children_index: u32::MAX,
+            data_index: EMPTY,
+            children_index: EMPTY,
         }
     }
 }

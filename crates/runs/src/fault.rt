@@ -21,6 +21,7 @@ pub enum StoreFault {
 }
 
 impl StoreFault {
+    // One of the two things that a refusal tells; a conversion would give it no name.
     pub fn number(self) -> u32
         ensures { result ≡ (told self).number }
     {
@@ -63,6 +64,7 @@ pub enum LentFault {
 }
 
 impl LentFault {
+    // One of the two things that a refusal tells; a conversion would give it no name.
     pub fn number(self) -> u32
         ensures { result ≡ (told_lent self).number }
     {

@@ -4,7 +4,10 @@ ghost use Rattle.runs.specs.Lists.{empty};
 
 use std::fmt;
 
-// A number that names a run; the empty one, 4294967295, names none.
+// The number that names no run. It is a number and no case of its own: a record in a cell has 32 bits for an index.
+pub const EMPTY: u32 = u32::MAX;
+
+// A number that names a run, or the empty one.
 pub trait RunIndex: Copy {
     ghost number: { Self → ℕ };
 
@@ -18,13 +21,13 @@ pub trait RunIndex: Copy {
     final fn empty() -> Self
         ensures { number result ≡ empty }
     {
-        Self::at(u32::MAX)
+        Self::at(EMPTY)
     }
 
     final fn is_empty(self) -> bool
         ensures { result ≡ (number self == empty) }
     {
-        self.number() == u32::MAX
+        self.number() == EMPTY
     }
 }
 

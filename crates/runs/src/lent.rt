@@ -1,6 +1,6 @@
 // The memory that a store is lent: cells, and a ledger of one word a cell.
-ghost use Rattle.std.specs.Prelude.{length};
-ghost use Rattle.runs.specs.Calls.{Says, no_store};
+ghost use Rattle.std.specs.Prelude.{◌≡◌, length, replicate};
+ghost use Rattle.runs.specs.Calls.{Says, no_store, taken};
 ghost use Rattle.runs.specs.Refusals.{told_lent};
 
 use crate::fault::LentFault;
@@ -16,5 +16,19 @@ pub fn lent<E>(cells: &[E], ledger: &[u64]) -> Result<(), LentFault>
         Ok(())
     } else {
         Err(LentFault::Lengths)
+    }
+}
+
+// What a store takes of these: all of both, or nothing where `lent` refuses them. The ledger is cleared.
+pub fn take<'a, E>(cells: &'a mut [E], ledger: &'a mut [u64]) -> (&'a mut [E], &'a mut [u64])
+    ensures cells { length result.0.now ≡ taken (length cells.old) (length ledger.old) }
+    ensures ledger { result.1.now ≡ replicate (taken (length cells.old) (length ledger.old)) 0 }
+{
+    match lent(cells, ledger) {
+        Ok(()) => {
+            ledger.fill(0);
+            (cells, ledger)
+        }
+        Err(_) => (&mut cells[..0], &mut ledger[..0]),
     }
 }

@@ -32,7 +32,7 @@ pub trait Runs {
     fn count(&self) -> u32
         ensures { result ≡ count (model.live (state self.now)) };
 
-    // How many entries the run at an index has; 0 where none is live.
+    // How many entries the run at an index has: a number, which is 0 where none is live.
     fn length(&self, at: <Self::Item as Entry>::Index) -> u32
         ensures { result ≡ length (model.live (state self.now) (Self.Item.Index.number at)) };
 

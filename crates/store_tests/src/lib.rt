@@ -65,26 +65,27 @@ mod tests {
         (90, 31),
     ];
 
-    // Whether a run of e gets as many entries as a row says in the cells that it says.
-    fn fits_at_each_size<E: Entry>(
+    // The first row that is not met: in so many cells, a run of e gets another number of entries than the row says, the one answered here.
+    fn misfit<E: Entry>(
         cells: &mut [E],
         ledger: &mut [u64],
         e: E,
         rows: &[(usize, u32)],
-    ) -> bool {
+    ) -> Option<(usize, u32)> {
         for (n, most) in rows {
-            if filled(cells, ledger, *n, e) != *most {
-                return false;
+            let got = filled(cells, ledger, *n, e);
+            if got != *most {
+                return Some((*n, got));
             }
         }
-        true
+        None
     }
 
     #[test]
     fn plain_numbers_at_each_size(rt: HostRuntime) {
         let mut cells = [0u32; 90];
         let mut ledger = [7u64; 90];
-        assert!(rt; fits_at_each_size(&mut cells, &mut ledger, 5, &VALUES));
+        assert_eq!(rt; misfit(&mut cells, &mut ledger, 5, &VALUES), None);
     }
 
     #[test]
@@ -96,7 +97,7 @@ mod tests {
         };
         let mut cells = [stream; 90];
         let mut ledger = [0u64; 90];
-        assert!(rt; fits_at_each_size(&mut cells, &mut ledger, stream, &VALUES));
+        assert_eq!(rt; misfit(&mut cells, &mut ledger, stream, &VALUES), None);
     }
 
     #[test]
@@ -105,7 +106,7 @@ mod tests {
         let mut cells = [row; 90];
         let mut ledger = [0u64; 90];
         let rows = [(0, 0), (1, 1), (86, 24), (87, 32), (90, 32)];
-        assert!(rt; fits_at_each_size(&mut cells, &mut ledger, row, &rows));
+        assert_eq!(rt; misfit(&mut cells, &mut ledger, row, &rows), None);
     }
 
     // Two entries in and out again under a quota; false where a call is refused.

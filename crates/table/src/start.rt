@@ -6,6 +6,7 @@ use crate::{NotStarted, Table};
 use nodes::record::NodeRecord;
 use runs::entry::{Entry, NodeRow};
 use runs::store::RunStore;
+use std::fmt;
 use trunk::Trunk;
 
 // The number of the refusal.
@@ -31,10 +32,17 @@ pub fn start<E: Entry, N: RunStore<Item = NodeRow>, V: RunStore<Item = E>>(
 }
 
 impl<N, V> NotStarted<N, V> {
+    // One of the two things that a refusal tells; a conversion would give it no name.
     pub fn number(&self) -> u32
         ensures { result ≡ 12 }
     {
         NOT_STARTED
+    }
+}
+
+impl<N, V> fmt::Display for NotStarted<N, V> {
+    fn fmt<W: fmt::Write>(&self, f: &mut fmt::Formatter<W>) -> fmt::Result {
+        write!(f, "{}", self.number())
     }
 }
 

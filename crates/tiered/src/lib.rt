@@ -16,7 +16,8 @@ ghost use Rattle.tiered_model.specs.Ledger.{Sound};
 
 use runs::entry::Entry;
 use runs::fault::StoreFault;
-use runs::lent::lent;
+use runs::index::EMPTY;
+use runs::lent::take;
 use runs::shift::{copy_run, entry_in, shift_left, shift_right};
 
 pub mod store;
@@ -39,22 +40,10 @@ impl<'a, E: Entry> Tiered<'a, E> {
     ghost use Rattle.tiered.specs.Meaning.{store_state};
 
     // A store with no run over cells and a ledger of one word a cell; with no cells where the two differ in length or are too long.
-    // (A flat store's `new` is the same: what a lent slice holds can't be promised where a shared function would hand it back.)
     pub fn new(cells: &'a mut [E], ledger: &'a mut [u64]) -> Tiered<'a, E>
         ensures after { store_state result ≡ fresh (taken (length cells.old) (length ledger.old)) }
     {
-        match lent(cells, ledger) {
-            Ok(()) => Tiered::over(cells, ledger),
-            Err(_) => Tiered::over(&mut cells[..0], &mut ledger[..0]),
-        }
-    }
-
-    fn over(cells: &'a mut [E], ledger: &'a mut [u64]) -> Tiered<'a, E>
-        requires same { length ledger.old ≡ length cells.old }
-        requires low { length cells.old ≤ indexes }
-        ensures { store_state result ≡ fresh (length cells.old) }
-    {
-        ledger.fill(0);
+        let (cells, ledger) = take(cells, ledger);
         Tiered {
             cells,
             ledger,
@@ -141,7 +130,7 @@ impl<'a, E: Entry> Tiered<'a, E> {
         self.cells[(at + slot) as usize]
     }
 
-    // Writes an entry at a slot of a run.
+    // Writes an entry at a slot of a run. (One line, here and in a flat store.)
     fn replace(&mut self, at: u32, slot: u32, e: E)
         requires slot { slot < length ((store_state self.old).live at) }
         ensures after { store_state self.new ≡ kept (store_state self.old) at (slice_set ((store_state self.old).live at) slot e) }
@@ -241,7 +230,7 @@ impl<'a, E: Entry> Tiered<'a, E> {
     {
         if n == 1 {
             self.release(at, 1);
-            return 4294967295;
+            return EMPTY;
         }
         self.close_gap(at, n, slot);
         self.resize(at, n, n - 1)

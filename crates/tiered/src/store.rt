@@ -42,6 +42,7 @@ impl<'a, E: Entry> Runs for Tiered<'a, E> {
 
     ghost memory = { λ t. memory_of t };
 
+    // One field, and below one word of the ledger, as in a flat store: nothing is left to share.
     fn count(&self) -> u32 {
         self.runs
     }

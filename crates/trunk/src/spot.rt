@@ -4,7 +4,7 @@ use nodes::record::NodeRecord;
 use runs::index::NodeIndex;
 
 // An entry of the parent's run of children.
-#[derive(Clone, Copy)]
+#[derive(Clone, Copy, Debug, PartialEq, Eq)]
 pub struct Place {
     pub run: NodeIndex,
     pub slot: Slot,

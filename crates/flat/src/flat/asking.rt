@@ -46,6 +46,7 @@ impl<'a, E: Entry> Runs for Flat<'a, E> {
 
     ghost memory = { λ f. memory_of f };
 
+    // One field, and below one word of the ledger, as in a tiered store: nothing is left to share.
     fn count(&self) -> u32 {
         self.runs
     }
