@@ -1,8 +1,9 @@
 // The lines of one history, played on a table.
 use crate::line::{Call, Line, StoreKind};
-use crate::stores::{Claims, Client};
+use crate::stores::Client;
 use crate::value::Value;
 use nodes::fault::Fault;
+use runs::claims::Claims;
 use runs::entry::NodeRow;
 use runs::store::RunStore;
 use std::fmt::Display;

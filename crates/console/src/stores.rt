@@ -2,33 +2,11 @@
 use crate::line::{Base, StoreKind};
 use flat::flat::Flat;
 use quota::quota::Quota;
+use runs::claims::Claims;
 use runs::entry::Entry;
 use runs::store::RunStore;
 use std::io;
 use tiered::Tiered;
-
-// The claimed cells of a store, or of the one below its quotas.
-pub trait Claims {
-    fn claimed_cells(&self) -> u32;
-}
-
-impl<'a, E: Entry> Claims for Tiered<'a, E> {
-    fn claimed_cells(&self) -> u32 {
-        self.claimed()
-    }
-}
-
-impl<'a, E: Entry> Claims for Flat<'a, E> {
-    fn claimed_cells(&self) -> u32 {
-        self.claimed()
-    }
-}
-
-impl<E: Entry, S: RunStore<Item = E> + Claims> Claims for Quota<S> {
-    fn claimed_cells(&self) -> u32 {
-        self.below().claimed_cells()
-    }
-}
 
 // What is done with a store of entries.
 pub trait Client<E: Entry + Clone + Default>: Drop + Sized {

@@ -3,6 +3,7 @@
 #![tactic(auto)]
 
 pub mod capacity;
+pub mod claims;
 pub mod entry;
 pub mod fault;
 pub mod index;

@@ -1,37 +1,17 @@
 // Scripts of calls on a table over any two stores, each call with the answer that is expected.
+ghost use Rattle.std.specs.Prelude.{◌≡◌, ◌≤◌, length, IfSome};
+
 use bitmap::{Bit, Slot};
 use flat::flat::Flat;
 use nodes::fault::Fault;
 use quota::quota::Quota;
-use runs::entry::{Entry, NodeRow};
+use runs::claims::Claims;
+use runs::entry::NodeRow;
 use runs::index::{CellIndex, RunIndex};
 use runs::store::RunStore;
 use table::start::start;
 use table::{NotStarted, Table};
 use tiered::Tiered;
-
-// The claimed cells of a store, or of the one below its quotas.
-pub trait Claims {
-    fn claimed_cells(&self) -> u32;
-}
-
-impl<'a, E: Entry> Claims for Tiered<'a, E> {
-    fn claimed_cells(&self) -> u32 {
-        self.claimed()
-    }
-}
-
-impl<'a, E: Entry> Claims for Flat<'a, E> {
-    fn claimed_cells(&self) -> u32 {
-        self.claimed()
-    }
-}
-
-impl<E: Entry, S: RunStore<Item = E> + Claims> Claims for Quota<S> {
-    fn claimed_cells(&self) -> u32 {
-        self.below().claimed_cells()
-    }
-}
 
 // A call with its path and bit, or a look at the store of values inside the table.
 #[derive(Clone, Copy)]
@@ -100,7 +80,9 @@ pub fn play<N: RunStore<Item = NodeRow> + Drop, V: RunStore<Item = u32> + Claims
     nodes: N,
     values: V,
     script: &[Line<'_>],
-) -> usize {
+) -> usize
+    ensures { result ≤ length script.now }
+{
     let Ok(mut table) = start(nodes, values) else {
         return 0;
     };
@@ -113,7 +95,9 @@ pub fn play<N: RunStore<Item = NodeRow> + Drop, V: RunStore<Item = u32> + Claims
 }
 
 // The same over two tiered stores of so many cells, of 32 at most.
-pub fn play_tiered(nodes: usize, values: usize, script: &[Line<'_>]) -> usize {
+pub fn play_tiered(nodes: usize, values: usize, script: &[Line<'_>]) -> usize
+    ensures { result ≤ length script.now }
+{
     let nodes = nodes.min(32);
     let values = values.min(32);
     let mut rows = [NodeRow::default(); 32];
@@ -133,7 +117,9 @@ pub fn play_limited<N: RunStore<Item = NodeRow> + Drop, V: RunStore<Item = u32> 
     values: V,
     limit: u32,
     script: &[Line<'_>],
-) -> usize {
+) -> usize
+    ensures { result ≤ length script.now }
+{
     match Quota::start(values, limit) {
         Ok(limited) => play(nodes, limited, script),
         Err(_) => 0,
@@ -146,7 +132,9 @@ pub fn start_twice<N: RunStore<Item = NodeRow> + Drop, V: RunStore<Item = u32> +
     nodes: N,
     mut values: V,
     value: u32,
-) -> Option<(u32, u32, bool)> {
+) -> Option<(u32, u32, bool)>
+    ensures { IfSome result (λ x. x.0 ≡ 12) }
+{
     let run = values.open(value).ok()?;
     let Err(back) = start(nodes, values) else {
         return None;

@@ -47,6 +47,7 @@ impl<E: Entry, N: RunStore<Item = NodeRow>, V: RunStore<Item = E>> Trunk<N, V> {
             (MayPut N.Runs.model V.Runs.model (states N.Runs V.Runs self.now) path.now bit.number)
             result }
     {
+        // the way first, and then the bit
         let spot = self.reach(path, bit, DATA_BITS)?;
         if is_set(spot.node.data_bitmap, bit) {
             return Err(Fault::Taken);
