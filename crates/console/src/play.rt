@@ -2,8 +2,8 @@
 use crate::line::{Call, Line, StoreKind};
 use crate::stores::Client;
 use crate::value::Value;
+use claims::Claims;
 use nodes::fault::Fault;
-use runs::claims::Claims;
 use runs::entry::NodeRow;
 use runs::store::RunStore;
 use std::fmt::Display;

@@ -1,8 +1,8 @@
 // Stores by their names in a script. What is done with a store is told once, whatever store it is.
 use crate::line::{Base, StoreKind};
+use claims::Claims;
 use flat::flat::Flat;
 use quota::quota::Quota;
-use runs::claims::Claims;
 use runs::entry::Entry;
 use runs::store::RunStore;
 use std::io;

@@ -7,7 +7,6 @@ ghost use Rattle.quota_model.specs.Quotas.{State, up, capped};
 ghost use Rattle.quota_model.proofs.Lawful.{lawful};
 
 use bitmap::Slot;
-use runs::claims::Claims;
 use runs::entry::Entry;
 use runs::fault::StoreFault;
 use runs::store::{RunStore, Runs};
@@ -159,13 +158,5 @@ impl<E: Entry, S: RunStore<Item = E>> RunStore for Quota<S> {
         let taken = self.below.remove(at, slot).map_err(crossed)?;
         self.used -= 1;
         Ok(taken)
-    }
-}
-
-impl<E: Entry, S: Runs<Item = E> + Claims> Claims for Quota<S> {
-    ghost claimed = { λ q. S.Claims.claimed q.below };
-
-    fn claimed_cells(&self) -> u32 {
-        self.below.claimed_cells()
     }
 }

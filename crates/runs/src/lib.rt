@@ -3,7 +3,6 @@
 #![tactic(auto)]
 
 pub mod capacity;
-pub mod claims;
 pub mod entry;
 pub mod fault;
 pub mod index;

@@ -2,10 +2,10 @@
 ghost use Rattle.std.specs.Prelude.{◌≡◌, ◌≤◌, length, IfSome};
 
 use bitmap::{Bit, Slot};
+use claims::Claims;
 use flat::flat::Flat;
 use nodes::fault::Fault;
 use quota::quota::Quota;
-use runs::claims::Claims;
 use runs::entry::NodeRow;
 use runs::index::{CellIndex, RunIndex};
 use runs::store::RunStore;

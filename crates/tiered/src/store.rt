@@ -7,7 +7,6 @@ ghost use Rattle.tiered_model.proofs.Known.{known};
 
 use super::Tiered;
 use bitmap::Slot;
-use runs::claims::Claims;
 use runs::entry::Entry;
 use runs::fault::StoreFault;
 use runs::index::RunIndex;
@@ -109,15 +108,5 @@ impl<'a, E: Entry> RunStore for Tiered<'a, E> {
             old,
             E::Index::at(self.take_out(at.number(), n, slot.number)),
         ))
-    }
-}
-
-impl<'a, E: Entry> Claims for Tiered<'a, E> {
-    ghost use Rattle.tiered.specs.Meaning.{store_state};
-
-    ghost claimed = { λ t. (store_state t).claimed };
-
-    fn claimed_cells(&self) -> u32 {
-        self.claimed()
     }
 }

@@ -5,7 +5,6 @@ ghost use Rattle.flat_model.proofs.Lawful.{lawful};
 ghost use Rattle.flat_model.proofs.Known.{known};
 
 use super::Flat;
-use runs::claims::Claims;
 use runs::entry::Entry;
 use runs::fault::StoreFault;
 use runs::index::RunIndex;
@@ -77,14 +76,4 @@ impl<'a, E: Entry> Runs for Flat<'a, E> {
     ghost lawful = { lawful E.Entry.LONGEST E.Entry.wide E.Entry.narrow };
 
     ghost valid = { λ f. (known E.Entry.LONGEST _ _ _ _ _ f.sound).valid };
-}
-
-impl<'a, E: Entry> Claims for Flat<'a, E> {
-    ghost use Rattle.flat.specs.Meaning.{store_state};
-
-    ghost claimed = { λ f. (store_state f).claimed };
-
-    fn claimed_cells(&self) -> u32 {
-        Flat::claimed(self)
-    }
 }
