@@ -1,0 +1,10 @@
+pub mod Gathered
+pub mod Shuffles
+pub mod Places
+pub mod Paths
+pub mod Soundness
+pub mod Changes
+pub mod Allowed
+pub mod Moved
+pub mod Steps
+pub mod Runs

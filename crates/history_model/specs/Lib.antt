@@ -1,0 +1,4 @@
+pub mod Calls
+pub mod Books
+pub mod Histories
+pub mod Stands
