@@ -8,3 +8,7 @@ pub mod Allowed
 pub mod Moved
 pub mod Steps
 pub mod Runs
+pub mod Stores
+pub mod Turns
+pub mod Rooms
+pub mod Short

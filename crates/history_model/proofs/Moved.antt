@@ -23,7 +23,7 @@ unfolding passing
 passing_none f zero h = refl
 passing_none f (suc n) h = omega (arith, passing_none f n h, ap (λ (x : Bool). cond {A = ℕ} x 1 0) (h n))
 
-none_passing : (f : ℕ → Bool) (n b : ℕ) → passing f n ≡ 0 → b < n → f b ≡ false
+pub none_passing : (f : ℕ → Bool) (n b : ℕ) → passing f n ≡ 0 → b < n → f b ≡ false
 unfolding passing
 none_passing f zero b e l = absurd (omega arith)
 none_passing f (suc n) b e l = elim (cases_eq b n) [
