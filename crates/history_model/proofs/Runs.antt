@@ -8,6 +8,7 @@ use Rattle.runs.specs.Lists.{nth}
 use Rattle.runs.specs.Refusals.{Refusal, Grant}
 use Rattle.runs.specs.Runs.{Model, Lawful}
 use Rattle.runs.specs.declared.entry.NodeRow.{NodeRow}
+use Rattle.tiered_model.specs.Laws.{Iff}
 use Rattle.table_model.specs.Tree.{Path, Tree, bare, walk}
 use Rattle.table_model.specs.Tree as plain_tree
 use Rattle.table_model.specs.Laws.{Shown}
@@ -15,7 +16,7 @@ use Rattle.table_model.specs.States.{Table, tree_in, Sound}
 use Rattle.table_model.proofs.Whole.{start_law, show_law}
 use Rattle.history_model.specs.Calls.{Call, Out, Answer, done, refused, says, no_call, out, after, after_all, lists_in, record_in, refuses, leads, stepped, played, answer, answers}
 use Rattle.history_model.specs.Books.{gives, hands, given_by, given, handed_by, handed, values, front, rest, nexts, left, outs}
-use Rattle.history_model.specs.Histories.{started, at, plain, History}
+use Rattle.history_model.specs.Histories.{started, at, plain, Walked, History}
 use Rattle.history_model.proofs.Shuffles.{shuffled_is, shuffled_front, shuffled_after}
 use Rattle.history_model.proofs.Changes.{held}
 use Rattle.history_model.proofs.Moved.{moves}
@@ -55,6 +56,23 @@ module _ {X : Type 0} where
   left_is xs zero = refl
   left_is [] (suc m) = left_is [] m ∙ drop_nil m
   left_is (x ∷ xs) (suc m) = left_is xs m
+
+  none_nil : (m i : ℕ) → i < m → nth (nexts {X = X} [] m) i ≡ Some None
+  none_nil zero i l = absurd (omega arith)
+  none_nil (suc m) zero l = refl
+  none_nil (suc m) (suc i) l = none_nil m i (omega arith)
+
+  some_none : (x : X) → Some (Some x) ≡ Some None → ⊥
+  some_none x e = let y : ◌≡◌ {A = ℕ} 0 1 = cc in omega arith
+
+  none_when_out : (xs : List X) (m i : ℕ) → i < m → Iff (nth (nexts xs m) i ≡ Some None) (length xs ≤ i)
+  none_when_out xs zero i l = absurd (omega arith)
+  none_when_out [] (suc m) i l = (λ e. omega arith, λ e. none_nil (suc m) i l)
+  none_when_out (x ∷ xs) (suc m) zero l = (λ e. absurd (some_none x e), λ e. absurd (omega arith))
+  none_when_out (x ∷ xs) (suc m) (suc i) l = let h = none_when_out xs m i (omega arith) in (λ e. let k = h.0 e in omega arith, λ e. h.1 (omega arith))
+
+  walked : (xs : List X) (m : ℕ) → Walked xs m
+  walked xs m = record { first_are_handed_out = outs_nexts xs m; none_when_all_are_out = none_when_out xs m; others_are_left = left_is xs m }
 
 -- what was handed out and what is left are what was to come
 values_walked : {V : Type 0} (w : List (ℕ × V)) (m : ℕ) → values (outs (nexts w m)) ++ values (left w m) ≡ values w
@@ -195,6 +213,7 @@ module _ {V N S : Type 0} (mn : Model NodeRow N) (mv : Model V S) (kn kv : ℕ) 
       records_show_the_tree = λ k p r e. show_law (mn.live (now k).nodes) (mv.live (now k).vals) (now k).root p r (sound_at k).agrees e;
       refusals_change_nothing = λ k f e. ap (λ (j : ℕ). played mn mv start (take j cs)) (add-one k) ∙ refused_stays mn mv start cs k f e;
       values_are_rearranged = from_start;
-      walk_is_the_trees = λ m. outs_nexts (walk 25 (tree (length cs))) m;
-      values_are_rearranged_by_a_walk = λ m. subst (λ (l : List V). IsPermutation (given cs rs) (handed cs rs ++ l)) (sym (values_walked (walk 25 (tree (length cs))) m)) at_end;
+      may_be_broken_off = answers_take mn mv start cs;
+      walk_is_the_trees = walked (walk 25 (tree (length cs)));
+      walk_rearranges_the_values = λ m. subst (λ (l : List V). IsPermutation (given cs rs) (handed cs rs ++ l)) (sym (values_walked (walk 25 (tree (length cs))) m)) at_end;
     }

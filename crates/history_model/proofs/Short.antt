@@ -23,7 +23,7 @@ use Rattle.history_model.proofs.Moved.{moves}
 use Rattle.history_model.proofs.Steps.{plain_of}
 use Rattle.history_model.proofs.Stores.{Told, granted, short}
 use Rattle.history_model.proofs.Rooms.{Good, good_again, good_step, means_of, with_children, with_values, node_asked, value_asked, asked_is, node_sum, value_sum, sides}
-use Rattle.history_model.proofs.Runs.{begins, means, answer_at, next_at, sound}
+use Rattle.history_model.proofs.Runs.{begins, means, answer_at, next_at, sound, history}
 
 -- ---- verdicts
 
@@ -200,5 +200,17 @@ module _ {V : Type 0} where
       short_of_values : nodes_with a b cs rs k c ≤ a → Iff (nth rs k ≡ Some (refused (refusal 10 (23 ∷ 0 ∷ [])))) (b < values_with a b cs rs k c)
       short_of_values l = iff_at (nth rs k) (both node_grant value_grant told) _ verdict (ten node_grant value_grant told b (values_with a b cs rs k c) (node_fits.1 l) both_sides.1.0 value_fits)
 
+      accepted : nodes_with a b cs rs k c ≤ a → values_with a b cs rs k c ≤ b → nth rs k ≡ Some (done (out (tree_at a b cs rs k) (record_in (tiered 32) (tiered 31) (now k)) c))
+      accepted l r =
+          verdict ∙ both_first node_grant value_grant told (node_fits.1 l) ∙ ap (λ (g : Grant). Some (says (inside 10 g) told)) (value_fits.1 r)
+          ∙ ap (λ (u : Tree V). Some (done (out u (record_in (tiered 32) (tiered 31) (now k)) c))) (tree_means k)
+
     pub room : Room a b cs rs
-    room = record { claimed_by_nodes = claimed_nodes; claimed_by_values = claimed_values; refused_for_nodes = short_of_nodes; refused_for_values = short_of_values }
+    room = record {
+      history = history (tiered 32) (tiered 31) 32 31 (Valid 32) (Valid 31) ln lv (fresh a) (fresh b) (fresh_valid 32 a ha) (fresh_valid 31 b hb) (λ i. refl) (λ i. refl) cs;
+      claimed_by_nodes = claimed_nodes;
+      claimed_by_values = claimed_values;
+      refused_for_nodes = short_of_nodes;
+      refused_for_values = short_of_values;
+      accepted_with_room = accepted;
+    }

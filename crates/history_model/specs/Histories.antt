@@ -12,12 +12,21 @@ use Rattle.table_model.specs.Tree.{Path, Tree, bare, walk}
 use Rattle.table_model.specs.Table.{bare_row, Agrees}
 use Rattle.table_model.specs.Laws.{Shown}
 use Rattle.table_model.specs.States.{Table, tree_in}
-use Rattle.history_model.specs.Calls.{Call, Answer, refused, says, yes, no_call, changed, out, after_all, lists_in, record_in, played, answers}
+use Rattle.history_model.specs.Calls.{Call, Answer, done, refused, says, yes, no_call, changed, out, after_all, lists_in, record_in, played, answers}
 use Rattle.history_model.specs.Books.{given, handed, values, nexts, left, outs, most, value_groups, child_groups}
 
 -- a table of the empty path over two stores
 abbrev pub started : {N S : Type 0} → N → S → Table N S
 started n s = record { nodes = n; vals = s; root = bare_row }
+
+-- m nexts of a walk on which w is to come
+pub record Walked {X : Type 0} (w : List X) (m : ℕ) : Type 0 where
+  -- they hand out the first m in order, or all
+  pub first_are_handed_out : outs (nexts w m) ≡ take m w
+  -- a next answers none exactly when all are out
+  pub none_when_all_are_out : (i : ℕ) → i < m → Iff (nth (nexts w m) i ≡ Some None) (length w ≤ i)
+  -- and the others are left
+  pub others_are_left : left w m ≡ drop m w
 
 module _ {V N S : Type 0} (mn : Model NodeRow N) (mv : Model V S) (n : N) (s : S) (cs : List (Call V)) (rs : List (Answer V)) where
   -- the states at moment k
@@ -43,9 +52,11 @@ module _ {V N S : Type 0} (mn : Model NodeRow N) (mv : Model V S) (n : N) (s : S
     pub refusals_change_nothing : (k : ℕ) (f : Refusal) → nth rs k ≡ Some (refused f) → at (k + 1) ≡ at k
     -- the values given in are those handed back, together with those in the tree
     pub values_are_rearranged : (k : ℕ) → IsPermutation (given (take k cs) (take k rs)) (handed (take k cs) (take k rs) ++ values (walk 25 (plain k)))
-    -- and where a walk ends the history: m nexts hand out the first m of the tree's walk, none when all are out, and the rest is left
-    pub walk_is_the_trees : (m : ℕ) → outs (nexts (walk 25 (plain (length cs))) m) ≡ take m (walk 25 (plain (length cs)))
-    pub values_are_rearranged_by_a_walk : (m : ℕ) → let w = walk 25 (plain (length cs)) in
+    -- a history that is broken off at moment k is one too
+    pub may_be_broken_off : (k : ℕ) → take k rs ≡ answers mn mv (started n s) (take k cs)
+    -- a walk of m nexts, if one follows the last call, is the tree's; and the values given in are those handed back, by calls and by nexts, and those left
+    pub walk_is_the_trees : (m : ℕ) → Walked (walk 25 (plain (length cs))) m
+    pub walk_rearranges_the_values : (m : ℕ) → let w = walk 25 (plain (length cs)) in
         IsPermutation (given cs rs) (handed cs rs ++ (values (outs (nexts w m)) ++ values (left w m)))
 
 -- Over two fresh tiered stores, of so many cells for nodes and for values.
@@ -71,12 +82,17 @@ module _ {V : Type 0} (node_cells value_cells : ℕ) (cs : List (Call V)) (rs : 
   values_with k c = cells_of 31 (λ z. max (most_values k z) (value_groups (changed (tree_at k) c) z))
 
   pub record Room : Type 0 where
+    -- all that holds of any history
+    pub history : History (tiered 32) (tiered 31) (fresh node_cells) (fresh value_cells) cs rs
     -- a store's claimed cells: over the seven sizes, the size times the most groups so far
     pub claimed_by_nodes : (k : ℕ) → (stores_at k).nodes.claimed ≡ cells_of 32 (most_nodes k)
     pub claimed_by_values : (k : ℕ) → (stores_at k).vals.claimed ≡ cells_of 31 (most_values k)
     -- a call that the tree allows is refused 9 exactly where the node store's sum would exceed its cells,
     pub refused_for_nodes : (k : ℕ) (c : Call V) → nth cs k ≡ Some c → no_call (tree_at k) yes c ≡ None →
         Iff (nth rs k ≡ Some (refused (refusal 9 (23 ∷ 0 ∷ [])))) (node_cells < nodes_with k c)
-    -- else 10 exactly where the value store's would
+    -- else 10 exactly where the value store's would,
     pub refused_for_values : (k : ℕ) (c : Call V) → nth cs k ≡ Some c → no_call (tree_at k) yes c ≡ None → nodes_with k c ≤ node_cells →
         Iff (nth rs k ≡ Some (refused (refusal 10 (23 ∷ 0 ∷ [])))) (value_cells < values_with k c)
+    -- else it is accepted
+    pub accepted_with_room : (k : ℕ) (c : Call V) → nth cs k ≡ Some c → no_call (tree_at k) yes c ≡ None → nodes_with k c ≤ node_cells → values_with k c ≤ value_cells →
+        nth rs k ≡ Some (done (out (tree_at k) (record_in (tiered 32) (tiered 31) (stores_at k)) c))

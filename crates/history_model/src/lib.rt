@@ -1,6 +1,7 @@
 // What holds over whole histories of a table, over any two lawful stores, and over two tiered ones.
 #![tactic(auto)]
 
+ghost use Rattle.history_model.specs.Figures.{Figures};
 ghost use Rattle.history_model.specs.Stands.{HistoriesStand, RoomsStand};
 
 use runs::entry::{Entry, NodeRow};
@@ -12,4 +13,8 @@ pub fn histories_stand<E: Entry, N: RunStore<Item = NodeRow>, V: RunStore<Item =
 
 pub fn rooms_stand<V: Copy>()
     ensures { RoomsStand V }
+{}
+
+pub fn figures_stand()
+    ensures { Figures }
 {}
