@@ -1,11 +1,11 @@
 -- What is known of the plain tree where it allows a call, and what the stores' lists are then asked.
-use Rattle.std.proofs.Common.{◌≡◌, ℕ, ◌+◌, ◌<◌, ◌≤◌, Bool, true, false, cond, not, eqb, leb, ltb, [], ◌∷◌, ◌++◌, length, Some, None, Option, sym, refl, ap, ◌∙◌, arith}
+use Rattle.std.proofs.Common.{◌≡◌, ℕ, ◌<◌, Bool, true, false, not, leb, [], ◌∷◌, ◌++◌, length, Some, None, Option, refl, ap, ◌∙◌, arith}
 use Rattle.std.proofs.lemmas.Bool.{not-false, leb-false}
 use Rattle.runs.specs.Refusals.{Refusal, refusal, Grant}
 use Rattle.table_model.specs.Tree.{Path, Tree, followed}
 use Rattle.table_model.specs.Table.{is_some}
-use Rattle.table_model.specs.Refusals.{first, when, inside, bad_path, value_count, child_count, is_bare, no_node, no_path, no_place, no_get, no_put, no_take, no_add, no_plant, no_drop}
-use Rattle.history_model.specs.Calls.{Call, get, put, swap, take, add, plant, drop, show, Lists, yes, no_call}
+use Rattle.table_model.specs.Refusals.{first, when, inside, bad_path, value_count, child_count, is_bare, no_node, no_place, no_get, no_put, no_add, no_drop}
+use Rattle.history_model.specs.Calls.{Call, get, put, swap, take, add, plant, drop, show, Lists, no_call}
 
 pub first_none : (g h : Grant) → first g h ≡ None → (g ≡ None) × (h ≡ None)
 first_none None h e = (refl, e)

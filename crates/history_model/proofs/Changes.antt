@@ -1,5 +1,5 @@
 -- One thing exchanged in a tree: the values held, and any number summed over the nodes.
-use Rattle.std.proofs.Common.{◌≡◌, ℕ, zero, suc, ◌+◌, ◌-◌, ◌<◌, ◌≤◌, Bool, true, false, cond, ◌&&◌, eqb, List, [], ◌∷◌, ◌++◌, map, length, Some, None, sum_by, Option, sym, refl, ap, ◌∙◌, subst, inl, inr, append_assoc, append-nil, arith, length-append}
+use Rattle.std.proofs.Common.{◌≡◌, ℕ, zero, suc, ◌+◌, ◌<◌, Bool, true, false, cond, eqb, List, [], ◌∷◌, ◌++◌, length, Some, None, sum_by, Option, sym, refl, ap, ◌∙◌, subst, inl, inr, append_assoc, append-nil, arith}
 use mathlib.Core.Path.{fun_ext}
 use Rattle.std.specs.List.Sorted.{IsPermutation}
 use Rattle.std.proofs.lemmas.List.Sums.{sum_by-append}
@@ -10,12 +10,12 @@ use Rattle.table_model.specs.Tree.{Path, Tree, Plain, with_val, with_path, below
 use Rattle.table_model.specs.Tree as plain
 use Rattle.table_model.specs.Table.{is_some}
 use Rattle.table_model.specs.Refusals.{passing, value_count, child_count}
-use Rattle.history_model.specs.Books.{values, sum_below, in_group, over_nodes, value_groups, child_groups}
-use Rattle.history_model.proofs.Gathered.{rising, falling, collect, one_of, vals, Local, On, sub, Away, Exchanged, LeafMore, left}
-use Rattle.history_model.proofs.Shuffles.{shuffled_is, shuffled_front, shuffled_comm, shuffled_after, shuffled_before}
+use Rattle.history_model.specs.Books.{values, sum_below, in_group, over_nodes}
+use Rattle.history_model.proofs.Gathered.{rising, falling, collect, one_of, vals, Local, sub, Exchanged, LeafMore}
+use Rattle.history_model.proofs.Shuffles.{shuffled_front, shuffled_after, shuffled_before}
 use Rattle.history_model.proofs.Places as places
 use Rattle.history_model.proofs.Places.{without, without_agree, falling_pick, rising_pick, falling_none, rising_none}
-use Rattle.history_model.proofs.Paths.{same_refl, away_val, away_path, sub_val, sub_path, leaf_more, on, depth, room}
+use Rattle.history_model.proofs.Paths.{away_val, away_path, sub_val, sub_path, leaf_more, on, depth, room}
 use Rattle.history_model.proofs.Soundness.{no_child, no_value}
 
 -- ---- one list in place of another
@@ -157,8 +157,8 @@ module _ {V : Type 0} where
   unfolding vals
   near_vals s t e h = ap (λ (w : ℕ → Option V). rising 31 (λ b. one_of (w b))) e
 
-  pub near_values : (z : ℕ) → Local (λ (s : Tree V). in_group 31 z (value_count s []))
-  near_values z s t e h = ap (λ (w : ℕ → Option V). in_group 31 z (passing (λ b. is_some (w b)) 31)) e
+  pub near_values : (longest z : ℕ) → Local (λ (s : Tree V). in_group longest z (value_count s []))
+  near_values longest z s t e h = ap (λ (w : ℕ → Option V). in_group longest z (passing (λ b. is_some (w b)) 31)) e
 
   pub near_children : (z : ℕ) → Local (λ (s : Tree V). in_group 32 z (child_count s []))
   near_children z s t e h = ap (λ (w : ℕ → Bool). in_group 32 z (passing w 32)) (fun_ext h)

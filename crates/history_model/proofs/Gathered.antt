@@ -1,5 +1,5 @@
 -- Lists gathered from a whole tree, and two trees that differ at one place.
-use Rattle.std.proofs.Common.{◌≡◌, ℕ, zero, suc, ◌<◌, Bool, true, false, cond, List, [], ◌∷◌, ◌++◌, Some, None, Option}
+use Rattle.std.proofs.Common.{◌≡◌, ℕ, zero, suc, ◌<◌, true, false, cond, List, [], ◌∷◌, ◌++◌, Some, None, Option}
 use Rattle.std.specs.List.Sorted.{IsPermutation}
 use Rattle.table_model.specs.Tree.{Path, Tree, below}
 

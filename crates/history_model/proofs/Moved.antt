@@ -1,5 +1,5 @@
 -- What each call that the tree allows does to the values held and to the groups that stand.
-use Rattle.std.proofs.Common.{◌≡◌, ℕ, zero, suc, ◌+◌, ◌-◌, ◌<◌, ◌≤◌, Bool, true, false, cond, ◌&&◌, eqb, ◌⊎◌, List, [], ◌∷◌, ◌++◌, length, Some, None, Option, sym, refl, ap, ◌∙◌, subst, inl, inr, append_assoc, append-nil, arith, length-append}
+use Rattle.std.proofs.Common.{◌≡◌, ℕ, zero, suc, ◌+◌, ◌-◌, ◌<◌, Bool, true, false, cond, ◌&&◌, eqb, List, [], ◌∷◌, ◌++◌, length, Some, None, Option, sym, refl, ap, ◌∙◌, subst, inl, inr, append-nil, arith, length-append}
 use mathlib.Core.Path.{fun_ext}
 use Rattle.std.specs.List.Sorted.{IsPermutation}
 use Rattle.std.proofs.lemmas.List.Sorted.{IsPermutation-refl}
@@ -9,12 +9,12 @@ use Rattle.table_model.specs.Tree.{Path, Tree, Plain, same_path, with_val, with_
 use Rattle.table_model.specs.Table.{is_some}
 use Rattle.table_model.specs.Refusals.{passing, value_count, child_count, is_bare}
 use Rattle.history_model.specs.Calls.{Call, get, put, swap, take, add, plant, drop, show, out, changed, the_value}
-use Rattle.history_model.specs.Books.{gives, hands, in_group, over_nodes, value_groups, child_groups}
+use Rattle.history_model.specs.Books.{gives, hands, in_group, value_groups, child_groups}
 use Rattle.history_model.proofs.Gathered.{one_of, sub, Exchanged}
-use Rattle.history_model.proofs.Paths.{same_refl, same_is, same_sub, longer, sub_path}
+use Rattle.history_model.proofs.Paths.{same_refl, same_is, same_sub, longer}
 use Rattle.history_model.proofs.Soundness.{no_value, none_of, sound_add, sound_drop}
-use Rattle.history_model.proofs.Changes.{exchanged_back, exchanged_after, balanced, held, held_val, sum_val, held_add, sum_add, leaf, leaf_val, leaf_child, near_values, near_children, passing_same, passing_turn}
-use Rattle.history_model.proofs.Allowed.{Allowed, Here, some_there}
+use Rattle.history_model.proofs.Changes.{exchanged_back, exchanged_after, balanced, held, held_val, sum_val, held_add, sum_add, leaf, leaf_val, leaf_child, near_values, near_children, passing_turn}
+use Rattle.history_model.proofs.Allowed.{Allowed, Here}
 
 -- ---- counts
 
@@ -57,25 +57,25 @@ module _ {V : Type 0} where
 -- ---- the groups
 
 module _ {V : Type 0} (t : Tree V) (w : Plain t) (p : Path) (here : t.has p ≡ true) where
-  values_at : (u : Tree V) (z : ℕ) → in_group 31 z (value_count (sub u p) []) ≡ in_group 31 z (value_count u p)
-  values_at u z = ap (λ (q : Path). in_group 31 z (passing (λ b. is_some (u.val q b)) 31)) (append-nil p)
+  values_at : (u : Tree V) (longest z : ℕ) → in_group longest z (value_count (sub u p) []) ≡ in_group longest z (value_count u p)
+  values_at u longest z = ap (λ (q : Path). in_group longest z (passing (λ b. is_some (u.val q b)) 31)) (append-nil p)
 
-  val_turn : (b : ℕ) (o : Option V) (z : ℕ) → value_groups (with_val t p b o) z + in_group 31 z (value_count t p) ≡ value_groups t z + in_group 31 z (value_count (with_val t p b o) p)
-  val_turn b o z = omega (arith, sum_val t w p here b o (λ s. in_group 31 z (value_count s [])) (near_values z), values_at t z, values_at (with_val t p b o) z)
+  val_turn : (b : ℕ) (o : Option V) (longest z : ℕ) → value_groups longest (with_val t p b o) z + in_group longest z (value_count t p) ≡ value_groups longest t z + in_group longest z (value_count (with_val t p b o) p)
+  val_turn b o longest z = omega (arith, sum_val t w p here b o (λ s. in_group longest z (value_count s [])) (near_values longest z), values_at t longest z, values_at (with_val t p b o) longest z)
 
   val_keeps : (b : ℕ) (o : Option V) (z : ℕ) → child_groups (with_val t p b o) z ≡ child_groups t z
   val_keeps b o z = omega (arith, sum_val t w p here b o (λ s. in_group 32 z (child_count s [])) (near_children z))
 
   module _ (short : length p < 25) (b : ℕ) (low : b < 32) (absent : t.has (p ++ b ∷ []) ≡ false) where
-    no_values : (z : ℕ) → in_group 31 z (value_count (leaf t w p here short b low absent) []) ≡ 0
-    no_values z = ap (in_group 31 z) (passing_none (λ c. is_some ((leaf t w p here short b low absent).val [] c)) 31 (λ c. ap is_some (leaf_val t w p here short b low absent c)))
+    no_values : (longest z : ℕ) → in_group longest z (value_count (leaf t w p here short b low absent) []) ≡ 0
+    no_values longest z = ap (in_group longest z) (passing_none (λ c. is_some ((leaf t w p here short b low absent).val [] c)) 31 (λ c. ap is_some (leaf_val t w p here short b low absent c)))
 
     no_children : (z : ℕ) → in_group 32 z (child_count (leaf t w p here short b low absent) []) ≡ 0
     no_children z = ap (in_group 32 z) (passing_none (λ c. (leaf t w p here short b low absent).has (c ∷ [])) 32 (leaf_child t w p here short b low absent))
 
-    add_keeps : (z : ℕ) → value_groups (with_path t (p ++ b ∷ []) true) z ≡ value_groups t z
-    add_keeps z =
-        omega (arith, sum_add t w p here short b low absent (λ s. in_group 31 z (value_count s [])) (near_values z) (no_values z), values_at t z, values_at (with_path t (p ++ b ∷ []) true) z)
+    add_keeps : (longest z : ℕ) → value_groups longest (with_path t (p ++ b ∷ []) true) z ≡ value_groups longest t z
+    add_keeps longest z =
+        omega (arith, sum_add t w p here short b low absent (λ s. in_group longest z (value_count s [])) (near_values longest z) (no_values longest z), values_at t longest z, values_at (with_path t (p ++ b ∷ []) true) longest z)
 
     add_turn : (z : ℕ) → child_groups (with_path t (p ++ b ∷ []) true) z + in_group 32 z (child_count t p) ≡ child_groups t z + in_group 32 z (child_count t p + 1)
     add_turn z =
@@ -107,7 +107,7 @@ child_turn t (show p) = (0, 0)
 
 pub record Move {V : Type 0} (t : Tree V) (record_at : Path → Option NodeRow) (c : Call V) : Type 0 where
   pub values : IsPermutation (gives c ++ held t) (hands c (out t record_at c) ++ held (changed t c))
-  pub value_runs : (z : ℕ) → value_groups (changed t c) z + in_group 31 z (value_turn t c).0 ≡ value_groups t z + in_group 31 z (value_turn t c).1
+  pub value_runs : (longest z : ℕ) → value_groups longest (changed t c) z + in_group longest z (value_turn t c).0 ≡ value_groups longest t z + in_group longest z (value_turn t c).1
   pub child_runs : (z : ℕ) → child_groups (changed t c) z + in_group 32 z (child_turn t c).0 ≡ child_groups t z + in_group 32 z (child_turn t c).1
 
 module _ {V : Type 0} where
@@ -136,7 +136,7 @@ module _ {V : Type 0} (t : Tree V) (w : Plain t) (record_at : Path → Option No
   move_none : (c : Call V) → gives c ≡ [] → hands c (out t record_at c) ≡ [] → changed t c ≡ t → value_turn t c ≡ (0, 0) → child_turn t c ≡ (0, 0) → Move t record_at c
   move_none c g h e v k = record {
     values = rw (g, h, e) (IsPermutation-refl (held t));
-    value_runs = λ z. rw (e, v) refl;
+    value_runs = λ longest z. rw (e, v) refl;
     child_runs = λ z. rw (e, k) refl;
   }
 
@@ -147,7 +147,7 @@ module _ {V : Type 0} (t : Tree V) (w : Plain t) (record_at : Path → Option No
       let n : value_count (with_val t p b (Some v)) p ≡ value_count t p + 1 = omega (arith, count_val t p b (Some v) a.low) in
       record {
         values = balanced (held t) [] (held (with_val t p b (Some v))) (v ∷ []) (subst (λ (k : Option V). Exchanged (held t) (one_of k) (held (with_val t p b (Some v))) (v ∷ [])) e (held_val t w p a.has b (Some v) a.low));
-        value_runs = λ z. val_turn t w p a.has b (Some v) z ∙ ap (λ (k : ℕ). value_groups t z + in_group 31 z k) n;
+        value_runs = λ longest z. val_turn t w p a.has b (Some v) longest z ∙ ap (λ (k : ℕ). value_groups longest t z + in_group longest z k) n;
         child_runs = λ z. ap (λ (k : ℕ). k + 0) (val_keeps t w p a.has b (Some v) z);
       }
 
@@ -157,7 +157,7 @@ module _ {V : Type 0} (t : Tree V) (w : Plain t) (record_at : Path → Option No
       let n : value_count (with_val t p b (Some v)) p ≡ value_count t p = omega (arith, count_val t p b (Some v) a.low, there_one (t.val p b) e) in
       record {
         values = subst (λ (l : List V). IsPermutation (v ∷ held t) (l ++ held (with_val t p b (Some v)))) (sym (swap_hands p b v (t.val p b))) (balanced (held t) (one_of (t.val p b)) (held (with_val t p b (Some v))) (v ∷ []) (held_val t w p a.has b (Some v) a.low));
-        value_runs = λ z. omega (arith, val_turn t w p a.has b (Some v) z, ap (in_group 31 z) n);
+        value_runs = λ longest z. omega (arith, val_turn t w p a.has b (Some v) longest z, ap (in_group longest z) n);
         child_runs = λ z. ap (λ (k : ℕ). k + 0) (val_keeps t w p a.has b (Some v) z);
       }
 
@@ -167,7 +167,7 @@ module _ {V : Type 0} (t : Tree V) (w : Plain t) (record_at : Path → Option No
       let n : value_count (with_val t p b None) p ≡ value_count t p - 1 = omega (arith, count_val t p b None a.low, there_one (t.val p b) e) in
       record {
         values = subst (λ (l : List V). IsPermutation (held t) (l ++ held (with_val t p b None))) (sym (take_hands p b (t.val p b))) (balanced (held t) (one_of (t.val p b)) (held (with_val t p b None)) [] (held_val t w p a.has b None a.low));
-        value_runs = λ z. val_turn t w p a.has b None z ∙ ap (λ (k : ℕ). value_groups t z + in_group 31 z k) n;
+        value_runs = λ longest z. val_turn t w p a.has b None longest z ∙ ap (λ (k : ℕ). value_groups longest t z + in_group longest z k) n;
         child_runs = λ z. ap (λ (k : ℕ). k + 0) (val_keeps t w p a.has b None z);
       }
 
@@ -176,7 +176,7 @@ module _ {V : Type 0} (t : Tree V) (w : Plain t) (record_at : Path → Option No
     unfolding value_turn child_turn
     move_add = record {
       values = balanced (held t) [] (held (with_path t (p ++ b ∷ []) true)) [] (held_add t w p a.has short b a.low absent);
-      value_runs = λ z. ap (λ (k : ℕ). k + 0) (add_keeps t w p a.has short b a.low absent z);
+      value_runs = λ longest z. ap (λ (k : ℕ). k + 0) (add_keeps t w p a.has short b a.low absent longest z);
       child_runs = add_turn t w p a.has short b a.low absent;
     }
 
@@ -194,7 +194,7 @@ module _ {V : Type 0} (t : Tree V) (w : Plain t) (record_at : Path → Option No
         let x : Exchanged (held u) [] (held (with_val u r 0 (Some v))) (v ∷ []) = subst (λ (k : Option V). Exchanged (held u) (one_of k) (held (with_val u r 0 (Some v))) (v ∷ [])) (off 0) (held_val u wu r here 0 (Some v) (omega arith)) in
         record {
           values = balanced (held t) [] (held (with_val u r 0 (Some v))) (v ∷ []) (exchanged_after (held_add t w p a.has short b a.low absent) x);
-          value_runs = λ z. omega (arith, val_turn u wu r here 0 (Some v) z, ap (in_group 31 z) n, ap (in_group 31 z) none, add_keeps t w p a.has short b a.low absent z);
+          value_runs = λ longest z. omega (arith, val_turn u wu r here 0 (Some v) longest z, ap (in_group longest z) n, ap (in_group longest z) none, add_keeps t w p a.has short b a.low absent longest z);
           child_runs = λ z. omega (arith, val_keeps u wu r here 0 (Some v) z, add_turn t w p a.has short b a.low absent z);
         }
 
@@ -218,7 +218,7 @@ module _ {V : Type 0} (t : Tree V) (w : Plain t) (record_at : Path → Option No
       let m : child_count t p - 1 ≡ child_count u p = omega arith in
       record {
         values = balanced (held t) [] (held u) [] (exchanged_back (subst (λ (k : Tree V). Exchanged (held u) [] (held k) []) back (held_add u wu p here short b a.low gone)));
-        value_runs = λ z. omega (arith, add_keeps u wu p here short b a.low gone z, ap (λ (k : Tree V). value_groups k z) back);
+        value_runs = λ longest z. omega (arith, add_keeps u wu p here short b a.low gone longest z, ap (λ (k : Tree V). value_groups longest k z) back);
         child_runs = λ z. omega (arith, add_turn u wu p here short b a.low gone z, ap (λ (k : Tree V). child_groups k z) back, ap (in_group 32 z) n, ap (in_group 32 z) m);
       }
 

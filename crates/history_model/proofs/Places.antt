@@ -1,13 +1,13 @@
 -- What is gathered from a tree, where one place of it changes.
-use Rattle.std.proofs.Common.{◌≡◌, ℕ, zero, suc, ◌<◌, Bool, true, false, cond, eqb, ◌⊎◌, List, [], ◌∷◌, ◌++◌, sym, refl, ap, ◌∙◌, subst, inl, inr, append_assoc, append-nil, arith}
+use Rattle.std.proofs.Common.{◌≡◌, ℕ, zero, suc, ◌<◌, Bool, true, false, cond, eqb, List, [], ◌∷◌, ◌++◌, sym, refl, ap, ◌∙◌, subst, inl, inr, append_assoc, append-nil, arith}
 use mathlib.Core.Path.{fun_ext}
 use Rattle.std.specs.List.Sorted.{IsPermutation}
-use Rattle.std.proofs.lemmas.Bool.{eq-eqb, ne_eqb, eqb-true, eqb-false, cases_eq}
-use Rattle.std.proofs.lemmas.List.Sorted.{IsPermutation-refl, IsPermutation-cons, IsPermutation-trans, IsPermutation-sym}
+use Rattle.std.proofs.lemmas.Bool.{eq-eqb, ne_eqb, eqb-false, cases_eq}
+use Rattle.std.proofs.lemmas.List.Sorted.{IsPermutation-refl, IsPermutation-trans}
 use Rattle.table_model.specs.Tree.{Path, Tree, below}
 use Rattle.history_model.proofs.Gathered.{rising, falling, collect}
 use Rattle.history_model.proofs.Gathered.{Local, On, sub, Away, ValuesDiffer, LeafMore, Exchanged, left}
-use Rattle.history_model.proofs.Shuffles.{shuffled_is, shuffled_front, shuffled_comm, shuffled_after, shuffled_before, shuffled_both}
+use Rattle.history_model.proofs.Shuffles.{shuffled_is, shuffled_front, shuffled_comm, shuffled_after, shuffled_before}
 
 -- ---- one bit of many
 

@@ -1,30 +1,26 @@
 -- Over a history on two fresh tiered stores: claimed cells, and when a store is short of room.
-use Rattle.std.proofs.Common.{◌≡◌, ℕ, zero, suc, ◌+◌, ◌-◌, ◌<◌, ◌≤◌, max, Bool, true, false, cond, List, [], ◌∷◌, ◌++◌, length, take, Some, None, Option, sym, refl, ap, ◌∙◌, subst, inl, inr, arith}
+use Rattle.std.proofs.Common.{◌≡◌, ℕ, zero, suc, ◌+◌, ◌-◌, ◌<◌, ◌≤◌, max, Bool, true, false, cond, [], ◌∷◌, ◌++◌, Some, None, sym, refl, ap, ◌∙◌, inl, inr, arith}
 use mathlib.Core.Path.{fun_ext}
 use Rattle.std.proofs.lemmas.Bool.{cases_eq}
 use Rattle.runs.specs.Calls.{moved_on}
-use Rattle.runs.specs.Lists.{nth}
-use Rattle.runs.specs.Refusals.{Refusal, refusal, Grant}
+use Rattle.runs.specs.Refusals.{Grant}
 use Rattle.runs.specs.Runs.{grows, shrinks}
 use Rattle.runs.specs.declared.entry.NodeRow.{NodeRow}
-use Rattle.tiered_model.specs.Tiered.{State, fresh, tiered}
+use Rattle.tiered_model.specs.Tiered.{State, tiered}
 use Rattle.tiered_model.specs.Groups.{Valid, standing, groups, cells_of}
-use Rattle.tiered_model.specs.Laws.{Iff, begun}
-use Rattle.tiered_model.proofs.Taking.{fresh_valid}
-use Rattle.tiered_model.proofs.Lawful.{lawful, claims}
-use Rattle.table_model.specs.Tree.{Path, Tree, bare}
+use Rattle.tiered_model.specs.Laws.{Iff}
+use Rattle.tiered_model.proofs.Lawful.{lawful}
+use Rattle.table_model.specs.Tree.{Tree}
 use Rattle.table_model.specs.Table.{is_some}
 use Rattle.table_model.specs.Refusals.{first, inside, passing, value_count, child_count}
 use Rattle.table_model.specs.States.{Table, tree_in, Sound}
-use Rattle.history_model.specs.Calls.{Call, get, put, swap, take as taking, add, plant, drop, show, Out, Answer, done, refused, Lists, yes, says, out, no_call, changed, after, lists_in, record_in, refuses, leads, stepped, played, answer, answers}
-use Rattle.history_model.specs.Books.{in_group, most, sum_below, over_nodes, value_groups, child_groups}
-use Rattle.history_model.specs.Histories.{started, at, plain, tree_at, stores_at, most_nodes, most_values, nodes_with, values_with, Room}
-use Rattle.history_model.proofs.Allowed.{Allowed, Here, asked, judged}
-use Rattle.history_model.proofs.Moved.{Move, value_turn, child_turn, moves, none_passing}
+use Rattle.history_model.specs.Calls.{Call, get, put, swap, take as taking, add, plant, drop, show, Lists, says, out, changed, after, lists_in, record_in, refuses, leads, stepped}
+use Rattle.history_model.specs.Books.{in_group, value_groups, child_groups}
+use Rattle.history_model.proofs.Allowed.{Allowed, asked, judged}
+use Rattle.history_model.proofs.Moved.{Move, value_turn, child_turn, moves}
 use Rattle.history_model.proofs.Steps.{may, step, plain_of}
-use Rattle.history_model.proofs.Stores.{Told, granted, short, told_grows, told_shrinks, fits_grow, fits_shrink}
+use Rattle.history_model.proofs.Stores.{Told, granted, told_grows, told_shrinks, fits_grow, fits_shrink}
 use Rattle.history_model.proofs.Turns.{goes}
-use Rattle.history_model.proofs.Runs.{begins, means, answer_at, next_at, sound}
 
 -- ---- counts
 
@@ -60,17 +56,17 @@ passing_on f b (suc n) l e = elim (cases_eq b n) [
 
 -- ---- the state along a history
 
-module _ {V : Type 0} where
+module _ {V : Type 0} (longest : ℕ) where
   abbrev pub means_of : Table (State NodeRow) (State V) → Tree V
-  means_of t = tree_in (tiered 32) (tiered 31) t
+  means_of t = tree_in (tiered 32) (tiered longest) t
 
   -- the groups that stand in each store are the tree's, and of each size so many have been made
   pub record Good (a b : ℕ) (t : Table (State NodeRow) (State V)) (node_most value_most : ℕ → ℕ) : Type 0 where
-    pub sound : Sound (tiered 32) (tiered 31) (Valid 32) (Valid 31) t
+    pub sound : Sound (tiered 32) (tiered longest) (Valid 32) (Valid longest) t
     pub nodes : (z : ℕ) → standing 32 t.nodes z ≡ child_groups (means_of t) z
-    pub values : (z : ℕ) → standing 31 t.vals z ≡ value_groups (means_of t) z
+    pub values : (z : ℕ) → standing longest t.vals z ≡ value_groups longest (means_of t) z
     pub nodes_made : (z : ℕ) → groups 32 t.nodes z ≡ node_most z
-    pub values_made : (z : ℕ) → groups 31 t.vals z ≡ value_most z
+    pub values_made : (z : ℕ) → groups longest t.vals z ≡ value_most z
     pub node_cells : t.nodes.cells ≡ a
     pub value_cells : t.vals.cells ≡ b
 
@@ -78,9 +74,9 @@ module _ {V : Type 0} where
   with_children f u z = max (f z) (child_groups u z)
 
   abbrev pub with_values : (ℕ → ℕ) → Tree V → ℕ → ℕ
-  with_values f u z = max (f z) (value_groups u z)
+  with_values f u z = max (f z) (value_groups longest u z)
 
-  module _ (a b : ℕ) (t : Table (State NodeRow) (State V)) (f g : ℕ → ℕ) (h : Good a b t f g) where
+  module _ (la : 31 ≤ longest) (lb : longest ≤ 32) (a b : ℕ) (t : Table (State NodeRow) (State V)) (f g : ℕ → ℕ) (h : Good a b t f g) where
     -- the same state once more
     pub good_again : Good a b t (with_children f (means_of t)) (with_values g (means_of t))
     good_again = record {
@@ -93,22 +89,22 @@ module _ {V : Type 0} where
       value_cells = h.value_cells;
     }
 
-    pub good_step : (c : Call V) → Good a b (stepped (tiered 32) (tiered 31) t c) (with_children f (means_of (stepped (tiered 32) (tiered 31) t c))) (with_values g (means_of (stepped (tiered 32) (tiered 31) t c)))
-    good_step c = go (refuses (tiered 32) (tiered 31) t c) refl (step (tiered 32) (tiered 31) 32 31 (Valid 32) (Valid 31) (lawful 32 (omega arith) (omega arith)) (lawful 31 (omega arith) (omega arith)) t h.sound c)
+    pub good_step : (c : Call V) → Good a b (stepped (tiered 32) (tiered longest) t c) (with_children f (means_of (stepped (tiered 32) (tiered longest) t c))) (with_values g (means_of (stepped (tiered 32) (tiered longest) t c)))
+    good_step c = go (refuses (tiered 32) (tiered longest) t c) refl (step (tiered 32) (tiered longest) 32 longest (Valid 32) (Valid longest) (lawful 32 (omega arith) (omega arith)) (lawful longest la lb) t h.sound c)
       where
-        go : (k : Grant) → refuses (tiered 32) (tiered 31) t c ≡ k
-            → Sound (tiered 32) (tiered 31) (Valid 32) (Valid 31) (moved_on k t (leads (tiered 32) (tiered 31) t c))
-            × (means_of (moved_on k t (leads (tiered 32) (tiered 31) t c)) ≡ after (means_of t) c (says k (out (means_of t) (record_in (tiered 32) (tiered 31) t) c)))
-            → Good a b (moved_on k t (leads (tiered 32) (tiered 31) t c)) (with_children f (means_of (moved_on k t (leads (tiered 32) (tiered 31) t c)))) (with_values g (means_of (moved_on k t (leads (tiered 32) (tiered 31) t c))))
+        go : (k : Grant) → refuses (tiered 32) (tiered longest) t c ≡ k
+            → Sound (tiered 32) (tiered longest) (Valid 32) (Valid longest) (moved_on k t (leads (tiered 32) (tiered longest) t c))
+            × (means_of (moved_on k t (leads (tiered 32) (tiered longest) t c)) ≡ after (means_of t) c (says k (out (means_of t) (record_in (tiered 32) (tiered longest) t) c)))
+            → Good a b (moved_on k t (leads (tiered 32) (tiered longest) t c)) (with_children f (means_of (moved_on k t (leads (tiered 32) (tiered longest) t c)))) (with_values g (means_of (moved_on k t (leads (tiered 32) (tiered longest) t c))))
         go (Some why) e s = good_again
         go None e s =
-            let u : Table (State NodeRow) (State V) = leads (tiered 32) (tiered 31) t c in
-            let m = may (tiered 32) (tiered 31) t h.sound.agrees c e in
-            let w = goes t h.sound c m.0.0 m.0.1 m.1 in
-            let j = judged (means_of t) c (lists_in (tiered 32) (tiered 31) t) (lists_in (tiered 32) (tiered 31) t) e in
-            let v = moves (means_of t) (plain_of (tiered 32) (tiered 31) 32 31 (Valid 32) (Valid 31) (lawful 32 (omega arith) (omega arith)) (lawful 31 (omega arith) (omega arith)) t h.sound) (record_in (tiered 32) (tiered 31) t) c j.0 in
+            let u : Table (State NodeRow) (State V) = leads (tiered 32) (tiered longest) t c in
+            let m = may (tiered 32) (tiered longest) t h.sound.agrees c e in
+            let w = goes longest la lb t h.sound c m.0.0 m.0.1 m.1 in
+            let j = judged (means_of t) c (lists_in (tiered 32) (tiered longest) t) (lists_in (tiered 32) (tiered longest) t) e in
+            let v = moves (means_of t) (plain_of (tiered 32) (tiered longest) 32 longest (Valid 32) (Valid longest) (lawful 32 (omega arith) (omega arith)) (lawful longest la lb) t h.sound) (record_in (tiered 32) (tiered longest) t) c j.0 in
             let kids : (z : ℕ) → standing 32 u.nodes z ≡ child_groups (means_of u) z = λ z. omega (arith, w.0.turned z, v.child_runs z, h.nodes z, ap (λ (x : Tree V). child_groups x z) s.1) in
-            let vals : (z : ℕ) → standing 31 u.vals z ≡ value_groups (means_of u) z = λ z. omega (arith, w.1.turned z, v.value_runs z, h.values z, ap (λ (x : Tree V). value_groups x z) s.1) in
+            let vals : (z : ℕ) → standing longest u.vals z ≡ value_groups longest (means_of u) z = λ z. omega (arith, w.1.turned z, v.value_runs longest z, h.values z, ap (λ (x : Tree V). value_groups longest x z) s.1) in
             record {
               sound = s.0;
               nodes = kids;
@@ -157,20 +153,21 @@ module _ {V : Type 0} where
   asked_is t l (drop p b) = alone (inside 9 (l.shrink_nodes (child_count t p)))
   asked_is t l (show p) = refl
 
+module _ {V : Type 0} (longest : ℕ) where
   -- ---- the answers of each store, and the sums
 
   abbrev pub node_sum : Table (State NodeRow) (State V) → Call V → ℕ
-  node_sum t c = cells_of 32 (λ z. max (groups 32 t.nodes z) (child_groups (changed (means_of t) c) z))
+  node_sum t c = cells_of 32 (λ z. max (groups 32 t.nodes z) (child_groups (changed (means_of longest t) c) z))
 
   abbrev pub value_sum : Table (State NodeRow) (State V) → Call V → ℕ
-  value_sum t c = cells_of 31 (λ z. max (groups 31 t.vals z) (value_groups (changed (means_of t) c) z))
+  value_sum t c = cells_of longest (λ z. max (groups longest t.vals z) (value_groups longest (changed (means_of longest t) c) z))
 
-  module _ (a b : ℕ) (t : Table (State NodeRow) (State V)) (f g : ℕ → ℕ) (h : Good a b t f g) where
+  module _ (la : 31 ≤ longest) (lb : longest ≤ 32) (a b : ℕ) (t : Table (State NodeRow) (State V)) (f g : ℕ → ℕ) (h : Good longest a b t f g) where
     abbrev pub tree : Tree V
-    tree = means_of t
+    tree = means_of longest t
 
     abbrev pub lists : Lists
-    lists = lists_in (tiered 32) (tiered 31) t
+    lists = lists_in (tiered 32) (tiered longest) t
 
     abbrev pub NodeSide : Call V → Type 0
     NodeSide c = Told (node_asked tree lists c) × Iff (node_asked tree lists c ≡ None) (node_sum t c ≤ t.nodes.cells)
@@ -184,12 +181,12 @@ module _ {V : Type 0} where
         let same : node_sum t c ≡ t.nodes.claimed = ap (cells_of 32) (fun_ext (λ z. omega (arith, e z, h.nodes z))) ∙ sym h.sound.nodes_valid.tiles in
         omega (arith, same, h.sound.nodes_valid.enough)
 
-    values_fit : (c : Call V) → ((z : ℕ) → value_groups (changed tree c) z ≡ value_groups tree z) → value_sum t c ≤ t.vals.cells
+    values_fit : (c : Call V) → ((z : ℕ) → value_groups longest (changed tree c) z ≡ value_groups longest tree z) → value_sum t c ≤ t.vals.cells
     values_fit c e =
-        let same : value_sum t c ≡ t.vals.claimed = ap (cells_of 31) (fun_ext (λ z. omega (arith, e z, h.values z))) ∙ sym h.sound.vals_valid.tiles in
+        let same : value_sum t c ≡ t.vals.claimed = ap (cells_of longest) (fun_ext (λ z. omega (arith, e z, h.values z))) ∙ sym h.sound.vals_valid.tiles in
         omega (arith, same, h.sound.vals_valid.enough)
 
-    module _ (c : Call V) (m : Move tree (record_in (tiered 32) (tiered 31) t) c) where
+    module _ (c : Call V) (m : Move tree (record_in (tiered 32) (tiered longest) t) c) where
       nodes_still : node_asked tree lists c ≡ None → child_turn tree c ≡ (0, 0) → NodeSide c
       nodes_still y k =
           let fit : node_sum t c ≤ t.nodes.cells = nodes_fit c (λ z. omega (arith, m.child_runs z, ap (λ (x : ℕ × ℕ). in_group 32 z x.0) k, ap (λ (x : ℕ × ℕ). in_group 32 z x.1) k)) in
@@ -197,7 +194,7 @@ module _ {V : Type 0} where
 
       values_still : value_asked tree lists c ≡ None → value_turn tree c ≡ (0, 0) → ValueSide c
       values_still y k =
-          let fit : value_sum t c ≤ t.vals.cells = values_fit c (λ z. omega (arith, m.value_runs z, ap (λ (x : ℕ × ℕ). in_group 31 z x.0) k, ap (λ (x : ℕ × ℕ). in_group 31 z x.1) k)) in
+          let fit : value_sum t c ≤ t.vals.cells = values_fit c (λ z. omega (arith, m.value_runs longest z, ap (λ (x : ℕ × ℕ). in_group longest z x.0) k, ap (λ (x : ℕ × ℕ). in_group longest z x.1) k)) in
           (granted y, (λ _. fit, λ _. y))
 
       nodes_grow : (n : ℕ) → n < 32 → node_asked tree lists c ≡ grows (tiered 32) t.nodes n → child_turn tree c ≡ (n, n + 1) → NodeSide c
@@ -210,27 +207,27 @@ module _ {V : Type 0} where
           let goes : (z : ℕ) → child_groups (changed tree c) z + in_group 32 z n ≡ standing 32 t.nodes z + in_group 32 z (n - 1) = λ z. omega (arith, m.child_runs z, h.nodes z, ap (λ (x : ℕ × ℕ). in_group 32 z x.0) k, ap (λ (x : ℕ × ℕ). in_group 32 z x.1) k) in
           rw y (told_shrinks 32 (omega arith) (omega arith) t.nodes n l u, fits_shrink 32 (omega arith) (omega arith) t.nodes h.sound.nodes_valid (λ z. child_groups (changed tree c) z) n l u goes)
 
-      values_grow : (n : ℕ) → n < 31 → value_asked tree lists c ≡ grows (tiered 31) t.vals n → value_turn tree c ≡ (n, n + 1) → ValueSide c
+      values_grow : (n : ℕ) → n < longest → value_asked tree lists c ≡ grows (tiered longest) t.vals n → value_turn tree c ≡ (n, n + 1) → ValueSide c
       values_grow n l y k =
-          let goes : (z : ℕ) → value_groups (changed tree c) z + in_group 31 z n ≡ standing 31 t.vals z + in_group 31 z (n + 1) = λ z. omega (arith, m.value_runs z, h.values z, ap (λ (x : ℕ × ℕ). in_group 31 z x.0) k, ap (λ (x : ℕ × ℕ). in_group 31 z x.1) k) in
-          rw y (told_grows 31 (omega arith) (omega arith) t.vals n l, fits_grow 31 (omega arith) (omega arith) t.vals h.sound.vals_valid (λ z. value_groups (changed tree c) z) n l goes)
+          let goes : (z : ℕ) → value_groups longest (changed tree c) z + in_group longest z n ≡ standing longest t.vals z + in_group longest z (n + 1) = λ z. omega (arith, m.value_runs longest z, h.values z, ap (λ (x : ℕ × ℕ). in_group longest z x.0) k, ap (λ (x : ℕ × ℕ). in_group longest z x.1) k) in
+          rw y (told_grows longest la lb t.vals n l, fits_grow longest la lb t.vals h.sound.vals_valid (λ z. value_groups longest (changed tree c) z) n l goes)
 
-      values_shrink : (n : ℕ) → 1 ≤ n → n ≤ 31 → value_asked tree lists c ≡ shrinks (tiered 31) t.vals n → value_turn tree c ≡ (n, n - 1) → ValueSide c
+      values_shrink : (n : ℕ) → 1 ≤ n → n ≤ longest → value_asked tree lists c ≡ shrinks (tiered longest) t.vals n → value_turn tree c ≡ (n, n - 1) → ValueSide c
       values_shrink n l u y k =
-          let goes : (z : ℕ) → value_groups (changed tree c) z + in_group 31 z n ≡ standing 31 t.vals z + in_group 31 z (n - 1) = λ z. omega (arith, m.value_runs z, h.values z, ap (λ (x : ℕ × ℕ). in_group 31 z x.0) k, ap (λ (x : ℕ × ℕ). in_group 31 z x.1) k) in
-          rw y (told_shrinks 31 (omega arith) (omega arith) t.vals n l u, fits_shrink 31 (omega arith) (omega arith) t.vals h.sound.vals_valid (λ z. value_groups (changed tree c) z) n l u goes)
+          let goes : (z : ℕ) → value_groups longest (changed tree c) z + in_group longest z n ≡ standing longest t.vals z + in_group longest z (n - 1) = λ z. omega (arith, m.value_runs longest z, h.values z, ap (λ (x : ℕ × ℕ). in_group longest z x.0) k, ap (λ (x : ℕ × ℕ). in_group longest z x.1) k) in
+          rw y (told_shrinks longest la lb t.vals n l u, fits_shrink longest la lb t.vals h.sound.vals_valid (λ z. value_groups longest (changed tree c) z) n l u goes)
 
-    pub sides : (c : Call V) → Allowed tree c → Move tree (record_in (tiered 32) (tiered 31) t) c → NodeSide c × ValueSide c
+    pub sides : (c : Call V) → Allowed tree c → Move tree (record_in (tiered 32) (tiered longest) t) c → NodeSide c × ValueSide c
     unfolding Allowed node_asked value_asked child_turn value_turn
     sides (get p b) w m = (nodes_still (get p b) m refl refl, values_still (get p b) m refl refl)
     sides (put p b v) w m = (
       nodes_still (put p b v) m refl refl,
-      values_grow (put p b v) m (value_count tree p) (passing_off (λ c. is_some (tree.val p c)) b 31 w.0.low (ap is_some w.1)) refl refl,
+      values_grow (put p b v) m (value_count tree p) (let l = passing_off (λ c. is_some (tree.val p c)) b 31 w.0.low (ap is_some w.1) in omega arith) refl refl,
     )
     sides (swap p b v) w m = (nodes_still (swap p b v) m refl refl, values_still (swap p b v) m refl refl)
     sides (taking p b) w m = (
       nodes_still (taking p b) m refl refl,
-      values_shrink (taking p b) m (value_count tree p) (passing_on (λ c. is_some (tree.val p c)) b 31 w.0.low w.1) (passing_up (λ c. is_some (tree.val p c)) 31) refl refl,
+      values_shrink (taking p b) m (value_count tree p) (passing_on (λ c. is_some (tree.val p c)) b 31 w.0.low w.1) (let l = passing_up (λ c. is_some (tree.val p c)) 31 in omega arith) refl refl,
     )
     sides (add p b) w m = (
       nodes_grow (add p b) m (child_count tree p) (passing_off (λ c. tree.has (p ++ c ∷ [])) b 32 w.0.low w.2) refl refl,

@@ -1,5 +1,5 @@
 -- Over lists of calls, by induction.
-use Rattle.std.proofs.Common.{◌≡◌, ℕ, zero, suc, ◌+◌, ◌-◌, ◌<◌, ◌≤◌, List, [], ◌∷◌, ◌++◌, map, length, take, drop, Some, None, Option, sym, refl, ap, ◌∙◌, subst, append_assoc, append-nil, add-one, arith}
+use Rattle.std.proofs.Common.{◌≡◌, ℕ, zero, suc, ◌<◌, ◌≤◌, List, [], ◌∷◌, ◌++◌, length, take, drop, Some, None, sym, refl, ap, ◌∙◌, subst, append_assoc, append-nil, add-one, arith}
 use Rattle.std.specs.List.Sorted.{IsPermutation}
 use Rattle.std.proofs.lemmas.List.Sorted.{IsPermutation-refl, IsPermutation-trans}
 use Rattle.std.proofs.lemmas.List.{map-append, take-append-drop, take_all}
@@ -11,13 +11,12 @@ use Rattle.runs.specs.declared.entry.NodeRow.{NodeRow}
 use Rattle.tiered_model.specs.Laws.{Iff}
 use Rattle.table_model.specs.Tree.{Path, Tree, bare, walk}
 use Rattle.table_model.specs.Tree as plain_tree
-use Rattle.table_model.specs.Laws.{Shown}
 use Rattle.table_model.specs.States.{Table, tree_in, Sound}
 use Rattle.table_model.proofs.Whole.{start_law, show_law}
-use Rattle.history_model.specs.Calls.{Call, Out, Answer, done, refused, says, no_call, out, after, after_all, lists_in, record_in, refuses, leads, stepped, played, answer, answers}
-use Rattle.history_model.specs.Books.{gives, hands, given_by, given, handed_by, handed, values, front, rest, nexts, left, outs}
+use Rattle.history_model.specs.Calls.{Call, Out, Answer, refused, says, no_call, out, after, after_all, lists_in, record_in, refuses, leads, stepped, played, answer, answers}
+use Rattle.history_model.specs.Books.{given_by, given, handed_by, handed, values, nexts, left, outs}
 use Rattle.history_model.specs.Histories.{started, at, plain, Walked, History}
-use Rattle.history_model.proofs.Shuffles.{shuffled_is, shuffled_front, shuffled_after}
+use Rattle.history_model.proofs.Shuffles.{shuffled_front, shuffled_after}
 use Rattle.history_model.proofs.Changes.{held}
 use Rattle.history_model.proofs.Moved.{moves}
 use Rattle.history_model.proofs.Allowed.{judged}

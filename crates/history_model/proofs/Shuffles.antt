@@ -1,7 +1,7 @@
 -- Rearranged lists, joined.
-use Rattle.std.proofs.Common.{◌≡◌, ℕ, List, [], ◌∷◌, ◌++◌, sym, refl, ap, subst, append_assoc, append-nil, arith}
+use Rattle.std.proofs.Common.{◌≡◌, List, [], ◌∷◌, ◌++◌, refl, subst, append-nil, arith}
 use Rattle.std.specs.List.Sorted.{IsPermutation}
-use Rattle.std.proofs.lemmas.List.Sorted.{IsPermutation-refl, IsPermutation-cons, IsPermutation-trans, IsPermutation-sym, IsPermutation-swap}
+use Rattle.std.proofs.lemmas.List.Sorted.{IsPermutation-refl, IsPermutation-cons, IsPermutation-trans, IsPermutation-swap}
 
 pub shuffled_mid : {X : Type 0} (v : X) (xs ys : List X) → IsPermutation (v ∷ (xs ++ ys)) (xs ++ (v ∷ ys))
 shuffled_mid v [] ys = IsPermutation-refl (v ∷ ys)

@@ -1,8 +1,8 @@
 -- What calls leave true of a tree.
-use Rattle.std.proofs.Common.{◌≡◌, ℕ, zero, suc, ◌<◌, ◌≤◌, Bool, true, false, cond, ◌&&◌, eqb, leb, ◌⊎◌, List, [], ◌∷◌, ◌++◌, length, Some, None, Option, sym, refl, ap, ◌∙◌, subst, inl, inr, arith}
+use Rattle.std.proofs.Common.{◌≡◌, ℕ, ◌<◌, Bool, true, false, cond, ◌&&◌, eqb, [], ◌∷◌, ◌++◌, length, Some, None, Option, sym, refl, ap, ◌∙◌, subst, inl, inr, arith}
 use Rattle.std.proofs.lemmas.Bool.{eqb-true, and_parts, false≢true, cases_Bool}
-use Rattle.table_model.specs.Tree.{Path, Tree, Plain, same_path, bare, with_val, with_path, below}
-use Rattle.history_model.proofs.Paths.{same_refl, same_is, last_same}
+use Rattle.table_model.specs.Tree.{Path, Tree, Plain, same_path, bare, with_val, with_path}
+use Rattle.history_model.proofs.Paths.{same_is, last_same}
 
 more : (x y : Bool) → y ≡ true → cond x true y ≡ true
 more true y h = refl

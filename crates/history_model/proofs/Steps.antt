@@ -1,15 +1,15 @@
 -- One call on a table: where it is accepted the table is sound again, and means the tree that the call leaves.
-use Rattle.std.proofs.Common.{◌≡◌, ℕ, ◌<◌, Bool, true, false, [], ◌∷◌, ◌++◌, length, Some, None, Option, sym, refl, ap, ◌∙◌, subst, inl, inr}
-use Rattle.std.proofs.lemmas.Bool.{cases_eq, both_ways, true≢false}
-use Rattle.bitmap.specs.Ranks.{is_set, rank}
+use Rattle.std.proofs.Common.{◌≡◌, ℕ, ◌<◌, true, false, [], ◌∷◌, ◌++◌, length, Some, None, Option, sym, refl, ap, ◌∙◌, subst, inl, inr}
+use Rattle.std.proofs.lemmas.Bool.{cases_eq, true≢false}
+use Rattle.bitmap.specs.Ranks.{rank}
 use Rattle.runs.specs.Calls.{moved_on}
-use Rattle.runs.specs.Refusals.{Refusal, Grant}
+use Rattle.runs.specs.Refusals.{Grant}
 use Rattle.runs.specs.Runs.{Model, Lawful, grows, shrinks}
 use Rattle.runs.specs.declared.entry.NodeRow.{NodeRow}
 use Rattle.table_model.specs.Tree.{Path, Tree, Plain}
-use Rattle.table_model.specs.Table.{is_some, child, find, tree_of, Agrees}
-use Rattle.table_model.specs.Refusals.{inside, bad_path, value_count, child_count, is_bare}
-use Rattle.table_model.specs.States.{Place, top, descend, Table, tree_in, Sound}
+use Rattle.table_model.specs.Table.{is_some, child, Agrees}
+use Rattle.table_model.specs.Refusals.{inside, value_count, child_count, is_bare}
+use Rattle.table_model.specs.States.{Place, top, Table, tree_in, Sound}
 use Rattle.table_model.specs.Calls.{way}
 use Rattle.table_model.specs.Judged.{Reached, MayGet, MayPut, MayTake, MayAdd, MayPlant, MayDrop}
 use Rattle.table_model.proofs.Nodes.{value_bit, child_bit, values_counted, children_counted, child_lost, child_found, bare_not}
@@ -17,7 +17,7 @@ use Rattle.table_model.proofs.Judging.{reached, get_may, put_may, take_may, add_
 use Rattle.table_model.proofs.Doing.{Arrives, swap_arrives, put_arrives, take_arrives, add_arrives, plant_arrives, drop_arrives}
 use Rattle.table_model.proofs.States.{descend_finds}
 use Rattle.table_model.proofs.Whole.{plain_law}
-use Rattle.history_model.specs.Calls.{Call, get, put, swap, take, add, plant, drop, show, Answer, done, refused, says, out, changed, after, lists_in, record_in, refuses, leads, stepped, answer}
+use Rattle.history_model.specs.Calls.{Call, get, put, swap, take, add, plant, drop, show, says, out, changed, after, lists_in, record_in, refuses, leads, stepped, answer}
 use Rattle.history_model.proofs.Allowed.{Allowed, Here, asked, judged, first_none, inside_none, some_there}
 
 module _ {V N S : Type 0} (mn : Model NodeRow N) (mv : Model V S) where

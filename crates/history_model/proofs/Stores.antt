@@ -1,10 +1,10 @@
 -- What the calls on a tiered store do to its groups, by the length of the run that is altered.
-use Rattle.std.proofs.Common.{◌≡◌, ℕ, zero, suc, ◌+◌, ◌-◌, ◌^◌, ◌<◌, ◌≤◌, max, Bool, true, false, cond, eqb, leb, List, [], ◌∷◌, length, set, Some, None, ◌⊎◌, sym, refl, ap, ◌∙◌, subst, inl, inr, add-one, arith, length-set}
+use Rattle.std.proofs.Common.{◌≡◌, ℕ, zero, suc, ◌+◌, ◌-◌, ◌^◌, ◌<◌, ◌≤◌, max, Bool, true, false, cond, eqb, leb, List, [], ◌∷◌, length, set, Some, None, sym, refl, ap, ◌∙◌, subst, inl, inr, add-one, arith, length-set}
 use mathlib.Core.Path.{fun_ext}
 use Rattle.std.proofs.lemmas.Bool.{cond_both, cases_lt, cases_eq}
 use Rattle.bitmap.specs.Ranks.{rank}
 use Rattle.runs.specs.Lists.{empty, indexes, at, with_new, without}
-use Rattle.runs.specs.Refusals.{Refusal, refusal, Grant}
+use Rattle.runs.specs.Refusals.{refusal, Grant}
 use Rattle.runs.specs.Runs.{Moved, tally, grows, shrinks, no_entry, no_insert, no_remove}
 use Rattle.runs.specs.Sizes.{size, one}
 use Rattle.runs.specs.declared.entry.NodeRow.{NodeRow}

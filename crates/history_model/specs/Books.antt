@@ -1,9 +1,9 @@
 -- The books that are kept over a history: values given in and handed back, and groups of cells, counted from the tree.
 use Rattle.std.specs.Prelude.{ℕ, zero, suc, ◌+◌, max, cond, List, [], ◌∷◌, ◌++◌, map, Some, None, Option}
 use Rattle.runs.specs.Sizes.{size, one}
-use Rattle.table_model.specs.Tree.{Tree, below, walk}
+use Rattle.table_model.specs.Tree.{Tree, below}
 use Rattle.table_model.specs.Refusals.{value_count, child_count}
-use Rattle.history_model.specs.Calls.{Call, get, put, swap, take, add, plant, drop, show, Out, nothing, value, node, Answer, done, refused}
+use Rattle.history_model.specs.Calls.{Call, get, put, swap, take, add, plant, drop, show, Out, value, Answer, done, refused}
 
 -- ---- values
 
@@ -97,9 +97,9 @@ module _ {V : Type 0} where
   over_nodes f zero t = f t
   over_nodes f (suc d) t = f t + sum_below (λ b. cond (t.has (b ∷ [])) (over_nodes f d (below t b)) 0) 32
 
-  -- how many nodes have their values in a group of size z, and how many their children's records
-  abbrev pub value_groups : Tree V → ℕ → ℕ
-  value_groups t z = over_nodes (λ s. in_group 31 z (value_count s [])) 25 t
+  -- how many nodes have their values in a group of size z, where the longest run of values is so long; and how many their children's records, of which there are at most 32
+  abbrev pub value_groups : ℕ → Tree V → ℕ → ℕ
+  value_groups longest t z = over_nodes (λ s. in_group longest z (value_count s [])) 25 t
 
   abbrev pub child_groups : Tree V → ℕ → ℕ
   child_groups t z = over_nodes (λ s. in_group 32 z (child_count s [])) 25 t

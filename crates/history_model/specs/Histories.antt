@@ -1,5 +1,5 @@
 -- What holds over whole histories. Moment k is after k calls; a list of calls is arbitrary, so a history may be broken off at any moment.
-use Rattle.std.specs.Prelude.{◌≡◌, ℕ, ◌+◌, ◌-◌, ◌<◌, ◌≤◌, max, List, [], ◌∷◌, ◌++◌, length, take, drop, Some, None}
+use Rattle.std.specs.Prelude.{◌≡◌, ℕ, ◌+◌, ◌<◌, ◌≤◌, max, List, [], ◌∷◌, ◌++◌, length, take, drop, Some, None}
 use Rattle.std.specs.List.Sorted.{IsPermutation}
 use Rattle.runs.specs.Lists.{nth}
 use Rattle.runs.specs.Refusals.{Refusal, refusal}
@@ -59,34 +59,34 @@ module _ {V N S : Type 0} (mn : Model NodeRow N) (mv : Model V S) (n : N) (s : S
     pub walk_rearranges_the_values : (m : ℕ) → let w = walk 25 (plain (length cs)) in
         IsPermutation (given cs rs) (handed cs rs ++ (values (outs (nexts w m)) ++ values (left w m)))
 
--- Over two fresh tiered stores, of so many cells for nodes and for values.
-module _ {V : Type 0} (node_cells value_cells : ℕ) (cs : List (Call V)) (rs : List (Answer V)) where
+-- Over two fresh tiered stores, of so many cells for nodes and for values, where the longest run of values is so long.
+module _ {V : Type 0} (longest node_cells value_cells : ℕ) (cs : List (Call V)) (rs : List (Answer V)) where
   abbrev pub tree_at : ℕ → Tree V
-  tree_at k = plain (tiered 32) (tiered 31) (fresh node_cells) (fresh value_cells) cs rs k
+  tree_at k = plain (tiered 32) (tiered longest) (fresh node_cells) (fresh value_cells) cs rs k
 
   abbrev pub stores_at : ℕ → Table (State NodeRow) (State V)
-  stores_at k = at (tiered 32) (tiered 31) (fresh node_cells) (fresh value_cells) cs rs k
+  stores_at k = at (tiered 32) (tiered longest) (fresh node_cells) (fresh value_cells) cs rs k
 
   -- of each size, the most groups that stood together at the moments 0, .., k
   abbrev pub most_nodes : ℕ → ℕ → ℕ
   most_nodes k z = most (λ j. child_groups (tree_at j) z) k
 
   abbrev pub most_values : ℕ → ℕ → ℕ
-  most_values k z = most (λ j. value_groups (tree_at j) z) k
+  most_values k z = most (λ j. value_groups longest (tree_at j) z) k
 
   -- the sums with the tree counted too that the call c would leave
   abbrev pub nodes_with : ℕ → Call V → ℕ
   nodes_with k c = cells_of 32 (λ z. max (most_nodes k z) (child_groups (changed (tree_at k) c) z))
 
   abbrev pub values_with : ℕ → Call V → ℕ
-  values_with k c = cells_of 31 (λ z. max (most_values k z) (value_groups (changed (tree_at k) c) z))
+  values_with k c = cells_of longest (λ z. max (most_values k z) (value_groups longest (changed (tree_at k) c) z))
 
   pub record Room : Type 0 where
     -- all that holds of any history
-    pub history : History (tiered 32) (tiered 31) (fresh node_cells) (fresh value_cells) cs rs
+    pub history : History (tiered 32) (tiered longest) (fresh node_cells) (fresh value_cells) cs rs
     -- a store's claimed cells: over the seven sizes, the size times the most groups so far
     pub claimed_by_nodes : (k : ℕ) → (stores_at k).nodes.claimed ≡ cells_of 32 (most_nodes k)
-    pub claimed_by_values : (k : ℕ) → (stores_at k).vals.claimed ≡ cells_of 31 (most_values k)
+    pub claimed_by_values : (k : ℕ) → (stores_at k).vals.claimed ≡ cells_of longest (most_values k)
     -- a call that the tree allows is refused 9 exactly where the node store's sum would exceed its cells,
     pub refused_for_nodes : (k : ℕ) (c : Call V) → nth cs k ≡ Some c → no_call (tree_at k) yes c ≡ None →
         Iff (nth rs k ≡ Some (refused (refusal 9 (23 ∷ 0 ∷ [])))) (node_cells < nodes_with k c)
@@ -95,4 +95,4 @@ module _ {V : Type 0} (node_cells value_cells : ℕ) (cs : List (Call V)) (rs : 
         Iff (nth rs k ≡ Some (refused (refusal 10 (23 ∷ 0 ∷ [])))) (value_cells < values_with k c)
     -- else it is accepted
     pub accepted_with_room : (k : ℕ) (c : Call V) → nth cs k ≡ Some c → no_call (tree_at k) yes c ≡ None → nodes_with k c ≤ node_cells → values_with k c ≤ value_cells →
-        nth rs k ≡ Some (done (out (tree_at k) (record_in (tiered 32) (tiered 31) (stores_at k)) c))
+        nth rs k ≡ Some (done (out (tree_at k) (record_in (tiered 32) (tiered longest) (stores_at k)) c))

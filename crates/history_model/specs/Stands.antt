@@ -11,5 +11,5 @@ HistoriesStand {V} {N} {S} mn mv VN VS = (n : N) (s : S) → VN n → VS s → (
     (cs : List (Call V)) → History mn mv n s cs (answers mn mv (started n s) cs)
 
 abbrev pub RoomsStand : Type 0 → Type 0
-RoomsStand V = (node_cells value_cells : ℕ) → node_cells ≤ 16777216 → value_cells ≤ 16777216 →
-    (cs : List (Call V)) → Room node_cells value_cells cs (answers (tiered 32) (tiered 31) (started (fresh node_cells) (fresh value_cells)) cs)
+RoomsStand V = (longest node_cells value_cells : ℕ) → 31 ≤ longest → longest ≤ 32 → node_cells ≤ 16777216 → value_cells ≤ 16777216 →
+    (cs : List (Call V)) → Room longest node_cells value_cells cs (answers (tiered 32) (tiered longest) (started (fresh node_cells) (fresh value_cells)) cs)
