@@ -5,18 +5,18 @@ use Rattle.std.specs.List.Sorted.{IsPermutation}
 use Rattle.std.proofs.lemmas.List.Sums.{sum_by-append}
 use Rattle.std.proofs.lemmas.List.{map-append}
 use Rattle.std.proofs.lemmas.Bool.{eq-eqb, ne_eqb, cases_eq, and_right}
-use Rattle.std.proofs.lemmas.List.Sorted.{IsPermutation-refl, IsPermutation-trans, IsPermutation-sym, sum_by-IsPermutation}
+use Rattle.std.proofs.lemmas.List.Sorted.{IsPermutation-append_right, IsPermutation-append_left, IsPermutation-trans, IsPermutation-sym, sum_by-IsPermutation}
 use Rattle.table_model.specs.Tree.{Path, Tree, Plain, with_val, with_path, below, listed, walk}
 use Rattle.table_model.specs.Tree as plain
 use Rattle.table_model.specs.Table.{is_some}
 use Rattle.table_model.specs.Refusals.{passing, value_count, child_count}
 use Rattle.history_model.specs.Books.{values, sum_below, in_group, over_nodes}
 use Rattle.history_model.proofs.Gathered.{rising, falling, collect, one_of, vals, Local, sub, Exchanged, LeafMore}
-use Rattle.history_model.proofs.Shuffles.{shuffled_front, shuffled_after, shuffled_before}
+use Rattle.history_model.proofs.Shuffles.{shuffled_front}
 use Rattle.history_model.proofs.Places as places
 use Rattle.history_model.proofs.Places.{without, without_agree, falling_pick, rising_pick, falling_none, rising_none}
 use Rattle.history_model.proofs.Paths.{away_val, away_path, sub_val, sub_path, leaf_more, on, depth, room}
-use Rattle.history_model.proofs.Soundness.{no_child, no_value}
+use Rattle.history_model.proofs.Plains.{no_child, no_value}
 
 -- ---- one list in place of another
 
@@ -25,15 +25,12 @@ module _ {X : Type 0} where
   pub exchanged_in : {xs m ys n m' n' : List X} → Exchanged xs m ys n → Exchanged m m' n n' → Exchanged xs m' ys n'
   exchanged_in {xs} {m} {ys} {n} {m'} {n'} h k = record {
     rest = k.rest ++ h.rest;
-    first = subst (λ (l : List X). IsPermutation xs l) (append_assoc m' k.rest h.rest) (IsPermutation-trans xs (m ++ h.rest) ((m' ++ k.rest) ++ h.rest) h.first (shuffled_before m (m' ++ k.rest) h.rest k.first));
-    second = subst (λ (l : List X). IsPermutation ys l) (append_assoc n' k.rest h.rest) (IsPermutation-trans ys (n ++ h.rest) ((n' ++ k.rest) ++ h.rest) h.second (shuffled_before n (n' ++ k.rest) h.rest k.second));
+    first = subst (λ (l : List X). IsPermutation xs l) (append_assoc m' k.rest h.rest) (IsPermutation-trans xs (m ++ h.rest) ((m' ++ k.rest) ++ h.rest) h.first (IsPermutation-append_left h.rest m (m' ++ k.rest) k.first));
+    second = subst (λ (l : List X). IsPermutation ys l) (append_assoc n' k.rest h.rest) (IsPermutation-trans ys (n ++ h.rest) ((n' ++ k.rest) ++ h.rest) h.second (IsPermutation-append_left h.rest n (n' ++ k.rest) k.second));
   }
 
   pub exchanged_back : {xs m ys n : List X} → Exchanged xs m ys n → Exchanged ys n xs m
   exchanged_back h = record { rest = h.rest; first = h.second; second = h.first }
-
-  pub exchanged_refl : (xs : List X) → Exchanged xs [] xs []
-  exchanged_refl xs = record { rest = xs; first = IsPermutation-refl xs; second = IsPermutation-refl xs }
 
   -- the same list exchanged for itself
   pub exchanged_none : {xs m ys : List X} → Exchanged xs m ys m → Exchanged xs [] ys []
@@ -47,14 +44,11 @@ module _ {X : Type 0} where
     second = k.second;
   }
 
-  pub exchanged_then : {xs m ys n zs : List X} → Exchanged xs m ys n → Exchanged ys [] zs [] → Exchanged xs m zs n
-  exchanged_then h k = exchanged_back (exchanged_after (exchanged_back k) (exchanged_back h))
-
 pub balanced : {X : Type 0} (xs m ys n : List X) → Exchanged xs m ys n → IsPermutation (n ++ xs) (m ++ ys)
 balanced xs m ys n h =
-    IsPermutation-trans (n ++ xs) (n ++ (m ++ h.rest)) (m ++ ys) (shuffled_after n xs (m ++ h.rest) h.first)
+    IsPermutation-trans (n ++ xs) (n ++ (m ++ h.rest)) (m ++ ys) (IsPermutation-append_right n xs (m ++ h.rest) h.first)
     (IsPermutation-trans (n ++ (m ++ h.rest)) (m ++ (n ++ h.rest)) (m ++ ys) (shuffled_front n m h.rest)
-    (shuffled_after m (n ++ h.rest) ys (IsPermutation-sym ys (n ++ h.rest) h.second)))
+    (IsPermutation-append_right m (n ++ h.rest) ys (IsPermutation-sym ys (n ++ h.rest) h.second)))
 
 total : List ℕ → ℕ
 total xs = sum_by (λ x. x) xs

@@ -2,7 +2,7 @@ pub mod Gathered
 pub mod Shuffles
 pub mod Places
 pub mod Paths
-pub mod Soundness
+pub mod Plains
 pub mod Changes
 pub mod Allowed
 pub mod Moved

@@ -1,5 +1,5 @@
 -- What each call that the tree allows does to the values held and to the groups that stand.
-use Rattle.std.proofs.Common.{◌≡◌, ℕ, zero, suc, ◌+◌, ◌-◌, ◌<◌, Bool, true, false, cond, ◌&&◌, eqb, List, [], ◌∷◌, ◌++◌, length, Some, None, Option, sym, refl, ap, ◌∙◌, subst, inl, inr, append-nil, arith, length-append}
+use Rattle.std.proofs.Common.{◌≡◌, ℕ, zero, suc, ◌+◌, ◌-◌, ◌<◌, Bool, true, false, cond, ◌&&◌, eqb, List, [], ◌∷◌, ◌++◌, length, Some, None, Option, sym, refl, ap, ◌∙◌, subst, inl, inr, append-nil, arith}
 use mathlib.Core.Path.{fun_ext}
 use Rattle.std.specs.List.Sorted.{IsPermutation}
 use Rattle.std.proofs.lemmas.List.Sorted.{IsPermutation-refl}
@@ -11,8 +11,9 @@ use Rattle.table_model.specs.Refusals.{passing, value_count, child_count, is_bar
 use Rattle.history_model.specs.Calls.{Call, get, put, swap, take, add, plant, drop, show, out, changed, the_value}
 use Rattle.history_model.specs.Books.{gives, hands, in_group, value_groups, child_groups}
 use Rattle.history_model.proofs.Gathered.{one_of, sub, Exchanged}
-use Rattle.history_model.proofs.Paths.{same_refl, same_is, same_sub, longer}
-use Rattle.history_model.proofs.Soundness.{no_value, none_of, sound_add, sound_drop}
+use Rattle.table_model.proofs.Paths.{same_refl, same_true, not_nil}
+use Rattle.history_model.proofs.Paths.{same_sub, longer_off}
+use Rattle.history_model.proofs.Plains.{no_value, none_of, plain_add, plain_drop}
 use Rattle.history_model.proofs.Changes.{exchanged_back, exchanged_after, balanced, held, held_val, sum_val, held_add, sum_add, leaf, leaf_val, leaf_child, near_values, near_children, passing_turn}
 use Rattle.history_model.proofs.Allowed.{Allowed, Here}
 
@@ -126,11 +127,8 @@ module _ {V : Type 0} where
   restored : (t : Tree V) (r : Path) → t.has r ≡ true → with_path (with_path t r false) r true ≡ t
   restored t r h =
       let go : (q : Path) (x : Bool) → same_path r q ≡ x → cond x true (cond x false (t.has q)) ≡ t.has q =
-      λ q. elim [ true ↦ λ e. sym (ap (λ (s : Path). t.has s) (sym (same_is r q e)) ∙ h) | false ↦ λ e. refl ] in
+      λ q. elim [ true ↦ λ e. sym (ap (λ (s : Path). t.has s) (sym (same_true r q e)) ∙ h) | false ↦ λ e. refl ] in
       ap (λ (m : Path → Bool). record { has = m; val = t.val }) (fun_ext (λ q. go q (same_path r q) refl))
-
-leaf_some : (p : Path) (b : ℕ) → p ++ (b ∷ []) ≡ [] → ⊥
-leaf_some p b e = omega (arith, length-append p (b ∷ []), ap length e)
 
 module _ {V : Type 0} (t : Tree V) (w : Plain t) (record_at : Path → Option NodeRow) where
   move_none : (c : Call V) → gives c ≡ [] → hands c (out t record_at c) ≡ [] → changed t c ≡ t → value_turn t c ≡ (0, 0) → child_turn t c ≡ (0, 0) → Move t record_at c
@@ -185,7 +183,7 @@ module _ {V : Type 0} (t : Tree V) (w : Plain t) (record_at : Path → Option No
     move_plant v =
         let r : Path = p ++ b ∷ [] in
         let u : Tree V = with_path t r true in
-        let wu : Plain u = sound_add t w p b a.has a.low short in
+        let wu : Plain u = plain_add t w p b a.has a.low short in
         let here : u.has r ≡ true = ap (λ (x : Bool). cond x true (t.has r)) (same_refl r) in
         let off : (c : ℕ) → u.val r c ≡ None = λ c. no_value t w r c absent in
         let none : value_count u r ≡ 0 = passing_none (λ c. is_some (u.val r c)) 31 (λ c. ap is_some (off c)) in
@@ -209,9 +207,9 @@ module _ {V : Type 0} (t : Tree V) (w : Plain t) (record_at : Path → Option No
       ] in
       let no_val : (c : ℕ) → t.val r c ≡ None = λ c. none_of (t.val r c) (λ v e. false≢true (sym (none_passing (λ c. is_some (t.val r c)) 31 c (omega arith) (w.valued r c v e).1) ∙ ap is_some e)) in
       let u : Tree V = with_path t r false in
-      let wu : Plain u = sound_drop t w r (leaf_some p b) no_child no_val in
+      let wu : Plain u = plain_drop t w r (not_nil p b) no_child no_val in
       let short : length p < 25 = (w.closed p b there).2 in
-      let here : u.has p ≡ true = ap (λ (x : Bool). cond x false (t.has p)) (longer p b) ∙ a.has in
+      let here : u.has p ≡ true = ap (λ (x : Bool). cond x false (t.has p)) (longer_off p b) ∙ a.has in
       let gone : u.has r ≡ false = ap (λ (x : Bool). cond x false (t.has r)) (same_refl r) in
       let back : with_path u r true ≡ t = restored t r there in
       let n : child_count t p ≡ child_count u p + 1 = ap (λ (k : Tree V). child_count k p) (sym back) ∙ count_add u p b a.low gone in

@@ -1,25 +1,11 @@
 -- Paths that are the same, and trees with one thing altered.
 use Rattle.std.proofs.Common.{◌≡◌, ℕ, zero, suc, ◌<◌, ◌≤◌, Bool, true, false, cond, ◌&&◌, eqb, [], ◌∷◌, ◌++◌, length, Option, sym, refl, ap, ◌∙◌, subst, inl, inr, append_assoc, append-nil, arith}
 use mathlib.Core.Path.{fun_ext}
-use Rattle.std.proofs.lemmas.Bool.{eq-eqb, ne_eqb, eqb-true, and_parts, and_right, false≢true}
+use Rattle.std.proofs.lemmas.Bool.{eq-eqb, ne_eqb, and_right}
 use Rattle.std.proofs.lemmas.List.{length_push}
-use Rattle.table_model.proofs.Paths.{ends}
+use Rattle.table_model.proofs.Paths.{ne_same, longer, not_nil, ends}
 use Rattle.table_model.specs.Tree.{Path, Tree, Plain, same_path, with_val, with_path, below}
-use Rattle.history_model.proofs.Gathered.{On, sub, Away, ValuesDiffer, LeafMore, left}
-
-pub same_refl : (p : Path) → same_path p p ≡ true
-same_refl [] = refl
-same_refl (c ∷ p) = ap (λ (x : Bool). x && same_path p p) (eq-eqb c c refl) ∙ same_refl p
-
-pub same_is : (p q : Path) → same_path p q ≡ true → p ≡ q
-same_is [] [] h = refl
-same_is [] (c ∷ q) h = absurd (false≢true h)
-same_is (c ∷ p) [] h = absurd (false≢true h)
-same_is (c ∷ p) (e ∷ q) h =
-    let a = and_parts (eqb c e) (same_path p q) h in
-    let x = eqb-true c e a.0 in
-    let y = same_is p q a.1 in
-    cc
+use Rattle.history_model.proofs.Gathered.{On, sub, Away, LeafMore, left}
 
 pub same_sub : (p r q : Path) → same_path (p ++ r) (p ++ q) ≡ same_path r q
 same_sub [] r q = refl
@@ -28,34 +14,12 @@ same_sub (c ∷ p) r q = ap (λ (x : Bool). x && same_path (p ++ r) (p ++ q)) (e
 pub same_start : (p q : Path) → same_path p (p ++ q) ≡ same_path [] q
 same_start p q = ap (λ (r : Path). same_path r (p ++ q)) (sym (append-nil p)) ∙ same_sub p [] q
 
-pub longer : (p : Path) (b : ℕ) → same_path (p ++ (b ∷ [])) p ≡ false
-longer [] b = refl
-longer (c ∷ p) b = and_right (eqb c c) (same_path (p ++ (b ∷ [])) p) (longer p b)
+-- a path with a bit more is another path, and not the empty one
+pub longer_off : (p : Path) (b : ℕ) → same_path (p ++ (b ∷ [])) p ≡ false
+longer_off p b = ne_same (p ++ b ∷ []) p (longer p b)
 
 not_empty : (p : Path) (b : ℕ) → same_path (p ++ (b ∷ [])) [] ≡ false
-not_empty [] b = refl
-not_empty (c ∷ p) b = refl
-
-empty_not : (p : Path) (b : ℕ) → same_path [] (p ++ (b ∷ [])) ≡ false
-empty_not [] b = refl
-empty_not (c ∷ p) b = refl
-
--- paths with the same last bit
-pub last_same : (p q : Path) (b c : ℕ) → same_path (p ++ (b ∷ [])) (q ++ (c ∷ [])) ≡ true → (p ≡ q) × (b ≡ c)
-last_same [] [] b c h = (refl, eqb-true b c (and_parts (eqb b c) true h).0)
-last_same [] (e ∷ q) b c h =
-    let a = and_parts (eqb b e) (same_path [] (q ++ (c ∷ []))) h in
-    absurd (false≢true (sym (empty_not q c) ∙ a.1))
-last_same (d ∷ p) [] b c h =
-    let a = and_parts (eqb d c) (same_path (p ++ (b ∷ [])) []) h in
-    absurd (false≢true (sym (not_empty p b) ∙ a.1))
-last_same (d ∷ p) (e ∷ q) b c h =
-    let a = and_parts (eqb d e) (same_path (p ++ (b ∷ [])) (q ++ (c ∷ []))) h in
-    let x = eqb-true d e a.0 in
-    let y = last_same p q b c a.1 in
-    let z = y.0 in
-    let w : d ∷ p ≡ e ∷ q = cc in
-    (w, y.1)
+not_empty p b = ne_same (p ++ b ∷ []) [] (not_nil p b)
 
 module _ {V : Type 0} where
   -- ---- the altered tree, seen from p
@@ -85,9 +49,6 @@ module _ {V : Type 0} where
   sub_path p t b h =
       let g : (Path → Bool) → Tree V = λ m. record { has = λ q. cond (m q) h (t.has (p ++ q)); val = λ q. t.val (p ++ q) } in
       ap g (fun_ext (λ q. same_sub p (b ∷ []) q))
-
-  pub val_differs : (s : Tree V) (b : ℕ) (o : Option V) → ValuesDiffer s (with_val s [] b o)
-  val_differs s b o = record { children = λ e. refl; same = λ e. refl }
 
   pub leaf_more : (s : Tree V) (b : ℕ) → s.has (b ∷ []) ≡ false → ((c : ℕ) → s.has (b ∷ c ∷ []) ≡ false) → LeafMore b s (with_path s (b ∷ []) true)
   leaf_more s b off free =

@@ -3,11 +3,11 @@ use Rattle.std.proofs.Common.{◌≡◌, ℕ, zero, suc, ◌<◌, Bool, true, fa
 use mathlib.Core.Path.{fun_ext}
 use Rattle.std.specs.List.Sorted.{IsPermutation}
 use Rattle.std.proofs.lemmas.Bool.{eq-eqb, ne_eqb, eqb-false, cases_eq}
-use Rattle.std.proofs.lemmas.List.Sorted.{IsPermutation-refl, IsPermutation-trans}
+use Rattle.std.proofs.lemmas.List.Sorted.{IsPermutation-append_right, IsPermutation-append_left, IsPermutation-append_comm, IsPermutation-refl, IsPermutation-trans}
 use Rattle.table_model.specs.Tree.{Path, Tree, below}
 use Rattle.history_model.proofs.Gathered.{rising, falling, collect}
 use Rattle.history_model.proofs.Gathered.{Local, On, sub, Away, ValuesDiffer, LeafMore, Exchanged, left}
-use Rattle.history_model.proofs.Shuffles.{shuffled_is, shuffled_front, shuffled_comm, shuffled_after, shuffled_before}
+use Rattle.history_model.proofs.Shuffles.{shuffled_is, shuffled_front}
 
 -- ---- one bit of many
 
@@ -69,7 +69,7 @@ falling_pick {X} (suc n) c g h = elim (cases_eq c n) [
       let ih = falling_pick n c g (omega arith) in
       let w = without_there c n g e in
       IsPermutation-trans (g n ++ falling n g) (g n ++ (g c ++ falling n (without c g))) (g c ++ (without c g n ++ falling n (without c g)))
-      (shuffled_after (g n) (falling n g) (g c ++ falling n (without c g)) ih)
+      (IsPermutation-append_right (g n) (falling n g) (g c ++ falling n (without c g)) ih)
       (subst (λ (l : List X). IsPermutation (g n ++ (g c ++ falling n (without c g))) (g c ++ (l ++ falling n (without c g)))) (sym w) (shuffled_front (g n) (g c) (falling n (without c g))))
 ]
 
@@ -81,13 +81,13 @@ rising_pick {X} (suc n) c g h = elim (cases_eq c n) [
       let a = rising_above n c g (omega arith) in
       let z = without_here c g in
       let w : rising n (without c g) ++ without c g n ≡ rising n g = ap (λ (k : ℕ). rising n (without c g) ++ without c g k) (sym e) ∙ ap (λ (l : List X). rising n (without c g) ++ l) z ∙ append-nil (rising n (without c g)) ∙ a in
-      subst (λ (l : List X). IsPermutation (rising n g ++ g n) (g c ++ l)) (sym w) (subst (λ (k : ℕ). IsPermutation (rising n g ++ g k) (g c ++ rising n g)) e (shuffled_comm (rising n g) (g c)))
+      subst (λ (l : List X). IsPermutation (rising n g ++ g n) (g c ++ l)) (sym w) (subst (λ (k : ℕ). IsPermutation (rising n g ++ g k) (g c ++ rising n g)) e (IsPermutation-append_comm (rising n g) (g c)))
   | inr e ↦
       let ih = rising_pick n c g (omega arith) in
       let w = without_there c n g e in
       subst (λ (l : List X). IsPermutation (rising n g ++ g n) (g c ++ (rising n (without c g) ++ l))) (sym w)
       (subst (λ (l : List X). IsPermutation (rising n g ++ g n) l) (append_assoc (g c) (rising n (without c g)) (g n))
-      (shuffled_before (rising n g) (g c ++ rising n (without c g)) (g n) ih))
+      (IsPermutation-append_left (g n) (rising n g) (g c ++ rising n (without c g)) ih))
 ]
 
 -- ---- one place of a tree
@@ -123,9 +123,9 @@ module _ {V X : Type 0} (f : Tree V → List X) (near : Local f) where
             let w : without c (kid d s) ≡ without c (kid d t) = without_agree c (kid d s) (kid d t) (λ b n. kid_same d s t b (sym (a.1 b)) (sym (a.2 b n))) in
             let one : IsPermutation (falling 32 (kid d s)) (kid d s c ++ falling 32 (without c (kid d s))) = falling_pick 32 c (kid d s) on.0 in
             let two : IsPermutation (falling 32 (kid d s)) (collect d f (below s c) ++ o) = subst (λ (l : List X). IsPermutation (falling 32 (kid d s)) (l ++ o)) k (subst (λ (g : ℕ → List X). IsPermutation (falling 32 (kid d s)) (kid d s c ++ falling 32 g)) w one) in
-            let three : IsPermutation (collect d f (below s c) ++ o) ((y ++ r) ++ o) = shuffled_before (collect d f (below s c)) (y ++ r) o (ih.1 (below s c) a.3) in
+            let three : IsPermutation (collect d f (below s c) ++ o) ((y ++ r) ++ o) = IsPermutation-append_left o (collect d f (below s c)) (y ++ r) (ih.1 (below s c) a.3) in
             let four : IsPermutation (falling 32 (kid d s)) (y ++ (r ++ o)) = subst (λ (l : List X). IsPermutation (falling 32 (kid d s)) l) (append_assoc y r o) (IsPermutation-trans (falling 32 (kid d s)) (collect d f (below s c) ++ o) ((y ++ r) ++ o) two three) in
-            let five : IsPermutation (f s ++ falling 32 (kid d s)) (f t ++ (y ++ (r ++ o))) = subst (λ (l : List X). IsPermutation (f s ++ falling 32 (kid d s)) (l ++ (y ++ (r ++ o)))) e (shuffled_after (f s) (falling 32 (kid d s)) (y ++ (r ++ o)) four) in
+            let five : IsPermutation (f s ++ falling 32 (kid d s)) (f t ++ (y ++ (r ++ o))) = subst (λ (l : List X). IsPermutation (f s ++ falling 32 (kid d s)) (l ++ (y ++ (r ++ o)))) e (IsPermutation-append_right (f s) (falling 32 (kid d s)) (y ++ (r ++ o)) four) in
             IsPermutation-trans (f s ++ falling 32 (kid d s)) (f t ++ (y ++ (r ++ o))) (y ++ (f t ++ (r ++ o))) five (shuffled_front (f t) y (r ++ o)),
       )
 
@@ -155,8 +155,8 @@ module _ {V X : Type 0} (f : Tree V → List X) (near : Local f) where
       let l : List X = h.rest in
       record {
         rest = l ++ r;
-        first = subst (λ (x : List X). IsPermutation (collect d f s) x) (append_assoc m l r) (IsPermutation-trans (collect d f s) (u ++ r) ((m ++ l) ++ r) (q.1 s (away_refl p s)) (shuffled_before u (m ++ l) r h.first));
-        second = subst (λ (x : List X). IsPermutation (collect d f t) x) (append_assoc n l r) (IsPermutation-trans (collect d f t) (v ++ r) ((n ++ l) ++ r) (q.1 t a) (shuffled_before v (n ++ l) r h.second));
+        first = subst (λ (x : List X). IsPermutation (collect d f s) x) (append_assoc m l r) (IsPermutation-trans (collect d f s) (u ++ r) ((m ++ l) ++ r) (q.1 s (away_refl p s)) (IsPermutation-append_left r u (m ++ l) h.first));
+        second = subst (λ (x : List X). IsPermutation (collect d f t) x) (append_assoc n l r) (IsPermutation-trans (collect d f t) (v ++ r) ((n ++ l) ++ r) (q.1 t a) (IsPermutation-append_left r v (n ++ l) h.second));
       }
 
   pub changed : (d : ℕ) (s t : Tree V) (p : Path) → On d s p → Away p s t → ValuesDiffer (sub s p) (sub t p) → Exchanged (collect d f s) (f (sub s p)) (collect d f t) (f (sub t p))
@@ -178,8 +178,8 @@ module _ {V X : Type 0} (f : Tree V → List X) (near : Local f) where
       let two : IsPermutation (falling 32 (kid d s)) o = subst (λ (l : List X). IsPermutation (falling 32 (kid d s)) (l ++ o)) (kid_none d s b h.absent) (falling_pick 32 b (kid d s) lt) in
       record {
         rest = o;
-        first = shuffled_after (f s) (falling 32 (kid d s)) o two;
-        second = subst (λ (l : List X). IsPermutation (f t ++ falling 32 (kid d t)) l) (sym (append_assoc (f t) (f (below t b)) o)) (shuffled_after (f t) (falling 32 (kid d t)) (f (below t b) ++ o) one);
+        first = IsPermutation-append_right (f s) (falling 32 (kid d s)) o two;
+        second = subst (λ (l : List X). IsPermutation (f t ++ falling 32 (kid d t)) l) (sym (append_assoc (f t) (f (below t b)) o)) (IsPermutation-append_right (f t) (falling 32 (kid d t)) (f (below t b) ++ o) one);
       }
 
   pub leaf : (d k : ℕ) (s t : Tree V) (p : Path) (b : ℕ) → On d s p → left d p ≡ suc k → b < 32 → Away p s t → LeafMore b (sub s p) (sub t p) → Exchanged (collect d f s) (f (sub s p)) (collect d f t) (f (sub t p) ++ f (below (sub t p) b))

@@ -1,7 +1,7 @@
 -- Over lists of calls, by induction.
 use Rattle.std.proofs.Common.{◌≡◌, ℕ, zero, suc, ◌<◌, ◌≤◌, List, [], ◌∷◌, ◌++◌, length, take, drop, Some, None, sym, refl, ap, ◌∙◌, subst, append_assoc, append-nil, add-one, arith}
 use Rattle.std.specs.List.Sorted.{IsPermutation}
-use Rattle.std.proofs.lemmas.List.Sorted.{IsPermutation-refl, IsPermutation-trans}
+use Rattle.std.proofs.lemmas.List.Sorted.{IsPermutation-append_right, IsPermutation-refl, IsPermutation-trans}
 use Rattle.std.proofs.lemmas.List.{map-append, take-append-drop, take_all}
 use Rattle.runs.specs.Calls.{moved_on}
 use Rattle.runs.specs.Lists.{nth}
@@ -16,7 +16,7 @@ use Rattle.table_model.proofs.Whole.{start_law, show_law}
 use Rattle.history_model.specs.Calls.{Call, Out, Answer, refused, says, no_call, out, after, after_all, lists_in, record_in, refuses, leads, stepped, played, answer, answers}
 use Rattle.history_model.specs.Books.{given_by, given, handed_by, handed, values, nexts, left, outs}
 use Rattle.history_model.specs.Histories.{started, at, plain, Walked, History}
-use Rattle.history_model.proofs.Shuffles.{shuffled_front, shuffled_after}
+use Rattle.history_model.proofs.Shuffles.{shuffled_front}
 use Rattle.history_model.proofs.Changes.{held}
 use Rattle.history_model.proofs.Moved.{moves}
 use Rattle.history_model.proofs.Allowed.{judged}
@@ -27,9 +27,9 @@ use Rattle.history_model.proofs.Steps.{step, plain_of}
 chained : {X : Type 0} (gv g t gt t2 h u : List X) → IsPermutation (gv ++ t) (gt ++ t2) → IsPermutation (g ++ t2) (h ++ u) → IsPermutation ((gv ++ g) ++ t) ((gt ++ h) ++ u)
 chained {X} gv g t gt t2 h u one more =
     let a : IsPermutation (gv ++ (g ++ t)) (g ++ (gv ++ t)) = shuffled_front gv g t in
-    let b : IsPermutation (g ++ (gv ++ t)) (g ++ (gt ++ t2)) = shuffled_after g (gv ++ t) (gt ++ t2) one in
+    let b : IsPermutation (g ++ (gv ++ t)) (g ++ (gt ++ t2)) = IsPermutation-append_right g (gv ++ t) (gt ++ t2) one in
     let c : IsPermutation (g ++ (gt ++ t2)) (gt ++ (g ++ t2)) = shuffled_front g gt t2 in
-    let d : IsPermutation (gt ++ (g ++ t2)) (gt ++ (h ++ u)) = shuffled_after gt (g ++ t2) (h ++ u) more in
+    let d : IsPermutation (gt ++ (g ++ t2)) (gt ++ (h ++ u)) = IsPermutation-append_right gt (g ++ t2) (h ++ u) more in
     let all : IsPermutation (gv ++ (g ++ t)) (gt ++ (h ++ u)) =
     IsPermutation-trans (gv ++ (g ++ t)) (g ++ (gv ++ t)) (gt ++ (h ++ u)) a
     (IsPermutation-trans (g ++ (gv ++ t)) (g ++ (gt ++ t2)) (gt ++ (h ++ u)) b

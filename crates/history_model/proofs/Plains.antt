@@ -1,8 +1,9 @@
--- What calls leave true of a tree.
-use Rattle.std.proofs.Common.{◌≡◌, ℕ, ◌<◌, Bool, true, false, cond, ◌&&◌, eqb, [], ◌∷◌, ◌++◌, length, Some, None, Option, sym, refl, ap, ◌∙◌, subst, inl, inr, arith}
-use Rattle.std.proofs.lemmas.Bool.{eqb-true, and_parts, false≢true, cases_Bool}
-use Rattle.table_model.specs.Tree.{Path, Tree, Plain, same_path, bare, with_val, with_path}
-use Rattle.history_model.proofs.Paths.{same_is, last_same}
+-- A tree with a bare child more or less is plain as before.
+use Rattle.std.proofs.Common.{◌≡◌, ℕ, ◌<◌, Bool, true, false, cond, [], ◌∷◌, ◌++◌, length, Some, None, Option, sym, refl, ap, ◌∙◌, subst, inl, inr, arith}
+use Rattle.std.proofs.lemmas.Bool.{false≢true, cases_Bool}
+use Rattle.table_model.specs.Tree.{Path, Tree, Plain, same_path, with_path}
+use Rattle.std.proofs.lemmas.List.{same_from_push}
+use Rattle.table_model.proofs.Paths.{same_true}
 
 more : (x y : Bool) → y ≡ true → cond x true y ≡ true
 more true y h = refl
@@ -10,7 +11,7 @@ more false y h = h
 
 -- a path other than r is kept
 kept : (r q : Path) (y : Bool) → y ≡ true → (r ≡ q → ⊥) → (x : Bool) → same_path r q ≡ x → cond x false y ≡ true
-kept r q y h n true e = absurd (n (same_is r q e))
+kept r q y h n true e = absurd (n (same_true r q e))
 kept r q y h n false e = h
 
 was : (x y : Bool) → cond x false y ≡ true → y ≡ true
@@ -32,23 +33,14 @@ module _ {V : Type 0} where
   pub no_value : (t : Tree V) → Plain t → (p : Path) (b : ℕ) → t.has p ≡ false → t.val p b ≡ None
   no_value t w p b h = none_of (t.val p b) (λ v e. false≢true (sym h ∙ (w.valued p b v e).0))
 
-  value_at : (t : Tree V) → Plain t → (p : Path) (b : ℕ) (o : Option V) → t.has p ≡ true → b < 31 → (q : Path) (c : ℕ) (v : V) (x : Bool) → same_path p q && eqb b c ≡ x → cond x o (t.val q c) ≡ Some v → (t.has q ≡ true) × (c < 31)
-  value_at t w p b o h l q c v true e k =
-      let a = and_parts (same_path p q) (eqb b c) e in
-      (subst (λ (r : Path). t.has r ≡ true) (same_is p q a.0) h, subst (λ (n : ℕ). n < 31) (eqb-true b c a.1) l)
-  value_at t w p b o h l q c v false e k = w.valued q c v k
-
-  pub sound_val : (t : Tree V) → Plain t → (p : Path) (b : ℕ) (o : Option V) → t.has p ≡ true → b < 31 → Plain (with_val t p b o)
-  sound_val t w p b o h l = record { rooted = w.rooted; closed = w.closed; valued = λ q c v k. value_at t w p b o h l q c v (same_path p q && eqb b c) refl k }
-
   child_at : (t : Tree V) → Plain t → (p : Path) (b : ℕ) → t.has p ≡ true → b < 32 → length p < 25 → (q : Path) (c : ℕ) (x : Bool) → same_path (p ++ (b ∷ [])) (q ++ (c ∷ [])) ≡ x → cond x true (t.has (q ++ (c ∷ []))) ≡ true → (t.has q ≡ true) × (c < 32) × (length q < 25)
   child_at t w p b h l s q c true e k =
-      let a = last_same p q b c e in
+      let a = same_from_push p q b c (same_true (p ++ b ∷ []) (q ++ c ∷ []) e) in
       (subst (λ (r : Path). t.has r ≡ true) a.0 h, subst (λ (n : ℕ). n < 32) a.1 l, subst (λ (r : Path). length r < 25) a.0 s)
   child_at t w p b h l s q c false e k = w.closed q c k
 
-  pub sound_add : (t : Tree V) → Plain t → (p : Path) (b : ℕ) → t.has p ≡ true → b < 32 → length p < 25 → Plain (with_path t (p ++ (b ∷ [])) true)
-  sound_add t w p b h l s = record {
+  pub plain_add : (t : Tree V) → Plain t → (p : Path) (b : ℕ) → t.has p ≡ true → b < 32 → length p < 25 → Plain (with_path t (p ++ (b ∷ [])) true)
+  plain_add t w p b h l s = record {
     rooted = more (same_path (p ++ (b ∷ [])) []) (t.has []) w.rooted;
     closed = λ q c k.
         let a = child_at t w p b h l s q c (same_path (p ++ (b ∷ [])) (q ++ (c ∷ []))) refl k in
@@ -56,8 +48,8 @@ module _ {V : Type 0} where
     valued = λ q c v k. let a = w.valued q c v k in (more (same_path (p ++ (b ∷ [])) q) (t.has q) a.0, a.1);
   }
 
-  pub sound_drop : (t : Tree V) → Plain t → (r : Path) → (r ≡ [] → ⊥) → ((c : ℕ) → t.has (r ++ (c ∷ [])) ≡ false) → ((c : ℕ) → t.val r c ≡ None) → Plain (with_path t r false)
-  sound_drop t w r n free empty = record {
+  pub plain_drop : (t : Tree V) → Plain t → (r : Path) → (r ≡ [] → ⊥) → ((c : ℕ) → t.has (r ++ (c ∷ [])) ≡ false) → ((c : ℕ) → t.val r c ≡ None) → Plain (with_path t r false)
+  plain_drop t w r n free empty = record {
     rooted = kept r [] (t.has []) w.rooted n (same_path r []) refl;
     closed = λ q c k.
         let y = was (same_path r (q ++ (c ∷ []))) (t.has (q ++ (c ∷ []))) k in
@@ -67,14 +59,3 @@ module _ {V : Type 0} where
         let a = w.valued q c v k in
         (kept r q (t.has q) a.0 (λ e. let z : Some v ≡ None = sym k ∙ ap (λ (s : Path). t.val s c) (sym e) ∙ empty c in let u : ◌≡◌ {A = ℕ} 0 1 = cc in omega arith) (same_path r q) refl, a.1);
   }
-
-  pub sound_bare : Plain (bare {V = V})
-  sound_bare = record {
-    rooted = refl;
-    closed = λ p b h. absurd (false≢true (bare_child p b h));
-    valued = λ p b v h. absurd (let u : ◌≡◌ {A = ℕ} 0 1 = cc in omega arith);
-  }
-    where
-      bare_child : (p : Path) (b : ℕ) → same_path (p ++ (b ∷ [])) [] ≡ true → false ≡ true
-      bare_child [] b h = h
-      bare_child (c ∷ p) b h = h
