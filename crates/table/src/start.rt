@@ -59,4 +59,12 @@ impl<N: RunStore<Item = NodeRow>, V: RunStore> Table<N, V> {
     {
         &self.trunk.values
     }
+
+    // What is inside, once no more calls are to be made.
+    pub fn into_trunk(self) -> Trunk<N, V>
+        ensures { result ≡ self.trunk }
+    {
+        let Table { trunk } = self;
+        trunk
+    }
 }

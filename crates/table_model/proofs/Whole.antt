@@ -86,7 +86,7 @@ show_law {V} nodes vals root p r a f = record {
     next : (b : ℕ) → find nodes root (p ++ b ∷ []) ≡ child nodes r b
     next b = find_snoc nodes root p b ∙ ap (λ (o : Option NodeRow). then o (λ (s : NodeRow). child nodes s b)) f
 
-some_of : {A : Type 0} (o : Option A) → is_some o ≡ true → (a : A) × (o ≡ Some a)
+pub some_of : {A : Type 0} (o : Option A) → is_some o ≡ true → (a : A) × (o ≡ Some a)
 some_of None e = absurd (let z : ◌≡◌ {A = ℕ} 0 1 = cc in omega arith)
 some_of (Some a) e = (a, refl)
 
