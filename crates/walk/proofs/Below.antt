@@ -3,11 +3,10 @@ use Rattle.std.proofs.Common.{◌≡◌, ℕ, suc, ◌-◌, ◌≤◌, List, [],
 use Rattle.bitmap.specs.Ranks.{rank}
 use Rattle.runs.specs.declared.entry.NodeRow.{NodeRow}
 use Rattle.runs.proofs.Known.{le_known, eq_known}
-use Rattle.table_model.specs.Tree.{Path}
-use Rattle.table_model.specs.Table.{child, find, Agrees, Passes}
+use Rattle.table_model.specs.Table.{child, Agrees, Passes}
 use Rattle.table_model.proofs.Finds.{find_nil}
 use Rattle.table_model.proofs.Nodes.{row_passes}
-use Rattle.walk.specs.Coming.{Below}
+use Rattle.walk.specs.Standing.{Below}
 use Rattle.walk.proofs.Rising.{find_child}
 
 passes_known : {P : Type 0} (r : NodeRow) → ∥ P ∥₁ → (P → Passes r) → Passes r

@@ -1,14 +1,14 @@
 -- A walk one step at a time: the values of one node, and the walk below it by the rows of its run of children.
-use Rattle.std.proofs.Common.{◌≡◌, ℕ, zero, suc, ◌+◌, ◌-◌, ◌/◌, ◌^◌, ◌<◌, ◌≤◌, Bool, true, false, cond, List, [], ◌∷◌, ◌++◌, length, Some, None, Option, sym, refl, ap, ◌∙◌, subst, inl, inr, arith}
+use Rattle.std.proofs.Common.{◌≡◌, ℕ, zero, suc, ◌+◌, ◌-◌, ◌/◌, ◌^◌, ◌<◌, ◌≤◌, Bool, true, false, cond, List, [], ◌∷◌, ◌++◌, length, Some, None, Option, sym, refl, ap, ◌∙◌, inl, inr, arith}
 use Rattle.std.proofs.lemmas.List.{append-nil, append_assoc}
-use Rattle.std.proofs.lemmas.Bool.{cases_eq, cases_Bool, cond_both}
+use Rattle.std.proofs.lemmas.Bool.{cases_eq, cases_Bool}
 use Rattle.bitmap.specs.Ranks.{bit, rank}
 use Rattle.bitmap.proofs.Ranks.{cases_bit, rank_strict}
 use Rattle.runs.specs.Lists.{nth}
 use Rattle.runs.specs.declared.entry.NodeRow.{NodeRow}
 use Rattle.runs.specs.declared.index.NodeIndex.{NodeIndex}
 use Rattle.table_model.specs.Tree.{Path, Tree, below, listed, rising, falling, walk}
-use Rattle.table_model.specs.Table.{is_some, then, child, value, find}
+use Rattle.table_model.specs.Table.{is_some, then, child, value, find, tree_of}
 use Rattle.table_model.proofs.Nths.{nth_in}
 use Rattle.table_model.proofs.Entries.{entry_set, entry_clear}
 use Rattle.table_model.proofs.Finds.{find_nil}
@@ -16,7 +16,11 @@ use Rattle.table_model.proofs.Whole.{some_of}
 use Rattle.trunk.specs.declared.spot.Place.{Place}
 use Rattle.walk.specs.Places.{run_places}
 use Rattle.walk.proofs.Lowest.{Lowest, none_from}
-use Rattle.walk.specs.Coming.{row_at, of_row, of_places, tree_by, walk_by, own_by}
+use Rattle.walk.specs.Coming.{row_at, of_row, of_places, walk_of, own_of}
+
+-- the tree below a row, where f says what a node has at its bits
+abbrev pub tree_by : {X : Type 0} → (ℕ → List NodeRow) → (NodeRow → ℕ → Option X) → NodeRow → Tree X
+tree_by nodes f r = record { has = λ p. is_some (find nodes r p); val = λ p b. then (find nodes r p) (λ s. f s b) }
 
 module _ {X : Type 0} where
   -- clear bits give nothing
@@ -70,15 +74,15 @@ module _ {X : Type 0} (nodes : ℕ → List NodeRow) (f : NodeRow → ℕ → Op
   val_is : (b : ℕ) → (tree_by nodes f r).val [] b ≡ f r b
   val_is b = ap (λ (o : Option NodeRow). then o (λ (s : NodeRow). f s b)) (find_nil nodes r)
 
-  pub own_none : (b : ℕ) → b ≤ 31 → ((i : ℕ) → b ≤ i → i < 31 → f r i ≡ None) → own_by nodes f b r ≡ []
-  unfolding own_by rising
+  pub own_none : (b : ℕ) → b ≤ 31 → ((i : ℕ) → b ≤ i → i < 31 → f r i ≡ None) → own_of (tree_by nodes f) b r ≡ []
+  unfolding own_of rising
   own_none b l h =
       let e : b + (31 - b) - 31 ≡ 0 = omega arith in
       skip (31 - b) b 31 (tree_by nodes f r) l (omega arith) (λ i a z. val_is i ∙ h i a z)
       ∙ ap (λ (k : ℕ). rising k 31 (tree_by nodes f r)) e
 
-  pub own_some : (b c : ℕ) (x : X) → b ≤ c → c < 31 → ((i : ℕ) → b ≤ i → i < c → f r i ≡ None) → f r c ≡ Some x → own_by nodes f b r ≡ (c, x) ∷ own_by nodes f (c + 1) r
-  unfolding own_by rising
+  pub own_some : (b c : ℕ) (x : X) → b ≤ c → c < 31 → ((i : ℕ) → b ≤ i → i < c → f r i ≡ None) → f r c ≡ Some x → own_of (tree_by nodes f) b r ≡ (c, x) ∷ own_of (tree_by nodes f) (c + 1) r
+  unfolding own_of rising
   own_some b c x l u h e =
       let k : b + (31 - b) - c ≡ suc (30 - c) = omega arith in
       let m : 30 - c ≡ 31 - (c + 1) = omega arith in
@@ -112,8 +116,8 @@ child_of nodes r b full l o =
 
 module _ {X : Type 0} (nodes : ℕ → List NodeRow) (f : NodeRow → ℕ → Option X) (r : NodeRow) (full : length (nodes r.children_index) ≡ rank r.child_bitmap 32) (deep : (p : Path) (s : NodeRow) → find nodes r p ≡ Some s → length p ≤ 25) (a : NodeIndex) (same : a.number ≡ r.children_index) where
   -- a child's walk has no need of its last level
-  child_walk : (b : ℕ) (s : NodeRow) → child nodes r b ≡ Some s → walk 24 (below (tree_by nodes f r) b) ≡ walk_by nodes f s
-  unfolding walk_by
+  child_walk : (b : ℕ) (s : NodeRow) → child nodes r b ≡ Some s → walk 24 (below (tree_by nodes f r) b) ≡ walk_of (tree_by nodes f) s
+  unfolding walk_of
   child_walk b s e = ap (walk 24) (below_child nodes f r b s e) ∙ sym (deeper 24 (tree_by nodes f s) short)
     where
       short : (p : Path) → is_some (find nodes s p) ≡ true → length p ≤ 24
@@ -125,7 +129,7 @@ module _ {X : Type 0} (nodes : ℕ → List NodeRow) (f : NodeRow → ℕ → Op
   pub row_here : (b : ℕ) (s : NodeRow) → bit r.child_bitmap b ≡ 1 → child nodes r b ≡ Some s → nth (nodes a.number) (rank r.child_bitmap b) ≡ Some s
   row_here b s o e = ap (λ (i : ℕ). nth (nodes i) (rank r.child_bitmap b)) same ∙ sym (entry_set (nodes r.children_index) r.child_bitmap b o) ∙ e
 
-  falls : (n : ℕ) → n ≤ 32 → falling (walk 24) n (tree_by nodes f r) ≡ of_places nodes (walk_by nodes f) (run_places a (rank r.child_bitmap n))
+  falls : (n : ℕ) → n ≤ 32 → falling (walk 24) n (tree_by nodes f r) ≡ of_places nodes (walk_of (tree_by nodes f)) (run_places a (rank r.child_bitmap n))
   unfolding falling rank of_places
   falls zero l = refl
   falls (suc n) l = elim (cases_bit r.child_bitmap n) [
@@ -133,20 +137,20 @@ module _ {X : Type 0} (nodes : ℕ → List NodeRow) (f : NodeRow → ℕ → Op
         let k : rank r.child_bitmap n ≡ rank r.child_bitmap n + bit r.child_bitmap n = omega arith in
         ap (λ (h : Bool). cond h (walk 24 (below (tree_by nodes f r) n)) [] ++ falling (walk 24) n (tree_by nodes f r)) (has_child nodes f r n None (entry_clear (nodes r.children_index) r.child_bitmap n z))
         ∙ falls n (omega arith)
-        ∙ ap (λ (j : ℕ). of_places nodes (walk_by nodes f) (run_places a j)) k
+        ∙ ap (λ (j : ℕ). of_places nodes (walk_of (tree_by nodes f)) (run_places a j)) k
     | inr o ↦
         let s = child_of nodes r n full (omega arith) o in
         let k : suc (rank r.child_bitmap n) ≡ rank r.child_bitmap n + bit r.child_bitmap n = omega arith in
         ap (λ (h : Bool). cond h (walk 24 (below (tree_by nodes f r) n)) [] ++ falling (walk 24) n (tree_by nodes f r)) (has_child nodes f r n (Some s.0) s.1)
         ∙ ap (λ (xs : List (ℕ × X)). xs ++ falling (walk 24) n (tree_by nodes f r)) (child_walk n s.0 s.1)
-        ∙ ap (λ (xs : List (ℕ × X)). walk_by nodes f s.0 ++ xs) (falls n (omega arith))
-        ∙ ap (λ (x : Option NodeRow). of_row (walk_by nodes f) x ++ of_places nodes (walk_by nodes f) (run_places a (rank r.child_bitmap n))) (sym (row_here n s.0 o s.1))
-        ∙ ap (λ (j : ℕ). of_places nodes (walk_by nodes f) (run_places a j)) k
+        ∙ ap (λ (xs : List (ℕ × X)). walk_of (tree_by nodes f) s.0 ++ xs) (falls n (omega arith))
+        ∙ ap (λ (x : Option NodeRow). of_row (walk_of (tree_by nodes f)) x ++ of_places nodes (walk_of (tree_by nodes f)) (run_places a (rank r.child_bitmap n))) (sym (row_here n s.0 o s.1))
+        ∙ ap (λ (j : ℕ). of_places nodes (walk_of (tree_by nodes f)) (run_places a j)) k
   ]
 
   -- a row's walk: its own values, and what the places of its children have
-  pub unfolds : walk_by nodes f r ≡ own_by nodes f 0 r ++ of_places nodes (walk_by nodes f) (run_places a (rank r.child_bitmap 32))
-  unfolding walk_by own_by walk
+  pub unfolds : walk_of (tree_by nodes f) r ≡ own_of (tree_by nodes f) 0 r ++ of_places nodes (walk_of (tree_by nodes f)) (run_places a (rank r.child_bitmap 32))
+  unfolding walk_of own_of walk
   unfolds = ap (λ (xs : List (ℕ × X)). rising 31 0 (tree_by nodes f r) ++ xs) (falls 32 (omega arith))
 
 module _ {X : Type 0} (nodes : ℕ → List NodeRow) (w : NodeRow → List X) where
@@ -163,10 +167,10 @@ module _ {X : Type 0} (nodes : ℕ → List NodeRow) (w : NodeRow → List X) wh
 
 module _ {V : Type 0} (nodes : ℕ → List NodeRow) (vals : ℕ → List V) (r : NodeRow) where
   -- the values at hand, by the bits that are left of a bitmap
-  pub hand_none : (b : ℕ) → b ≤ 31 → r.data_bitmap / 2 ^ b ≡ 0 → own_by nodes (value vals) b r ≡ []
+  pub hand_none : (b : ℕ) → b ≤ 31 → r.data_bitmap / 2 ^ b ≡ 0 → own_of (tree_of nodes vals) b r ≡ []
   hand_none b l z = own_none nodes (value vals) r b l (λ i a _. entry_clear (vals r.data_index) r.data_bitmap i (none_from r.data_bitmap b i z a))
 
-  pub hand_some : (b c : ℕ) (x : V) → b ≤ c → c < 31 → Lowest r.data_bitmap b c → nth (vals r.data_index) (rank r.data_bitmap c) ≡ Some x → own_by nodes (value vals) b r ≡ (c, x) ∷ own_by nodes (value vals) (c + 1) r
+  pub hand_some : (b c : ℕ) (x : V) → b ≤ c → c < 31 → Lowest r.data_bitmap b c → nth (vals r.data_index) (rank r.data_bitmap c) ≡ Some x → own_of (tree_of nodes vals) b r ≡ (c, x) ∷ own_of (tree_of nodes vals) (c + 1) r
   hand_some b c x l u low e =
       own_some nodes (value vals) r b c x l u (λ i a z. entry_clear (vals r.data_index) r.data_bitmap i (low.clear i a z))
       (entry_set (vals r.data_index) r.data_bitmap c low.here ∙ e)

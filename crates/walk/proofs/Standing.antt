@@ -1,5 +1,5 @@
 -- The stack: a node's children have room on it, and stand on it as what is below them asks.
-use Rattle.std.proofs.Common.{◌≡◌, ℕ, zero, suc, ◌+◌, ◌-◌, ◌/◌, ◌<◌, ◌≤◌, List, [], ◌∷◌, ◌++◌, length, Some, Option, sym, refl, ap, ◌∙◌, subst, inl, inr, length-append, arith}
+use Rattle.std.proofs.Common.{◌≡◌, ℕ, zero, suc, ◌+◌, ◌-◌, ◌/◌, ◌<◌, ◌≤◌, List, [], ◌∷◌, ◌++◌, length, Some, sym, refl, ap, ◌∙◌, subst, inl, inr, length-append, arith}
 use Rattle.bitmap.specs.Ranks.{bit, rank}
 use Rattle.bitmap.proofs.Ranks.{cases_bit, bit_two, rank_strict}
 use Rattle.runs.specs.declared.entry.NodeRow.{NodeRow}
@@ -9,7 +9,7 @@ use Rattle.runs.specs.Lists.{nth}
 use Rattle.table_model.specs.Table.{child}
 use Rattle.trunk.specs.declared.spot.Place.{Place}
 use Rattle.walk.specs.Places.{run_places}
-use Rattle.walk.specs.Coming.{row_at, Below, Here, Standing}
+use Rattle.walk.specs.Standing.{Below, Here, Standing}
 use Rattle.table_model.proofs.Entries.{entry_set}
 use Rattle.walk.proofs.Places.{length_run}
 use Rattle.walk.proofs.Rising.{child_of}

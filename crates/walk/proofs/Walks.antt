@@ -1,17 +1,16 @@
 -- The three steps of a walk: begun, a value handed out, the next node visited.
-use Rattle.std.proofs.Common.{◌≡◌, ℕ, zero, suc, ◌+◌, ◌-◌, ◌*◌, ◌/◌, ◌^◌, ◌<◌, ◌≤◌, List, [], ◌∷◌, ◌++◌, length, take, reverse, Some, Option, sym, refl, ap, ◌∙◌, subst, length-append, arith}
-use Rattle.std.specs.Int.{trailing_zeros, w32}
-use Rattle.std.proofs.lemmas.List.{append-nil, append_assoc, length-reverse, length-take}
+use Rattle.std.proofs.Common.{◌≡◌, ℕ, zero, suc, ◌+◌, ◌-◌, ◌*◌, ◌/◌, ◌<◌, ◌≤◌, List, [], ◌∷◌, ◌++◌, length, Some, Option, sym, refl, ap, ◌∙◌, subst, length-append, arith}
+use Rattle.std.proofs.lemmas.List.{append-nil, append_assoc}
 use Rattle.bitmap.specs.Ranks.{rank}
 use Rattle.bitmap.proofs.Ranks.{rank_strict, set_within}
 use Rattle.runs.specs.Lists.{indexes, nth}
-use Rattle.runs.specs.Runs.{Lawful, tally, total}
+use Rattle.runs.specs.Runs.{tally}
 use Rattle.runs.specs.declared.entry.NodeRow.{NodeRow}
 use Rattle.runs.specs.declared.index.NodeIndex.{NodeIndex}
 use Rattle.runs.specs.declared.store.Runs.{Ghosts}
 use Rattle.runs.proofs.Known.{le_known, eq_known}
 use Rattle.table_model.specs.Tree.{walk}
-use Rattle.table_model.specs.Table.{value, Agrees, Passes, tree_of}
+use Rattle.table_model.specs.Table.{value, Agrees, Passes}
 use Rattle.table_model.proofs.Known.{known}
 use Rattle.nodes.specs.Records.{row_of}
 use Rattle.nodes.specs.declared.record.NodeRecord.{NodeRecord}
@@ -20,10 +19,11 @@ use Rattle.trunk.specs.declared.spot.Place.{Place}
 use Rattle.trunk.specs.Meaning.{tree, Sound}
 use Rattle.walk.specs.declared.stack.Stack.{Stack}
 use Rattle.walk.specs.Places.{lasts, run_places}
-use Rattle.walk.specs.Coming.{row_at, of_places, walk_by, own_by, Below, Here, Standing, live_nodes, live_values, hand, rest, Ready}
+use Rattle.walk.specs.Coming.{row_at, of_places, walk_of, own_of, live_nodes, live_values, tree_at, hand, rest}
+use Rattle.walk.specs.Standing.{Below, Here, Standing, Ready, unseen}
 use Rattle.walk.proofs.Lowest.{Lowest}
 use Rattle.walk.proofs.Places.{lasts_low}
-use Rattle.walk.proofs.Rising.{own_some, unfolds, places_append, first_place, hand_some}
+use Rattle.walk.proofs.Rising.{tree_by, own_some, unfolds, places_append, first_place, hand_some}
 use Rattle.walk.proofs.Below.{root_below, own_passes, own_values, own_children}
 use Rattle.walk.proofs.Standing.{standing_known, standing_first, standing_rest, has_room, stands}
 
@@ -35,11 +35,11 @@ tally_low live h (suc n) = omega (arith, tally_low live h n, h n)
 
 -- a row's walk, over places that follow
 unfolds_over : {X : Type 0} (nodes : ℕ → List NodeRow) (f : NodeRow → ℕ → Option X) {V : Type 0} (vals : ℕ → List V) (e : ℕ) (r : NodeRow) (b : Below nodes vals e r) → e ≤ 25 → (a : NodeIndex) → a.number ≡ r.children_index → (ps : List Place) →
-    walk_by nodes f r ++ of_places nodes (walk_by nodes f) ps ≡ own_by nodes f 0 r ++ of_places nodes (walk_by nodes f) (run_places a (rank r.child_bitmap 32) ++ ps)
+    walk_of (tree_by nodes f) r ++ of_places nodes (walk_of (tree_by nodes f)) ps ≡ own_of (tree_by nodes f) 0 r ++ of_places nodes (walk_of (tree_by nodes f)) (run_places a (rank r.child_bitmap 32) ++ ps)
 unfolds_over {X} nodes f vals e r b l a same ps =
-    ap (λ (xs : List (ℕ × X)). xs ++ of_places nodes (walk_by nodes f) ps) (unfolds nodes f r (own_children nodes vals e r b) (λ p s q. omega (arith, b.shallow p s q)) a same)
-    ∙ append_assoc (own_by nodes f 0 r) (of_places nodes (walk_by nodes f) (run_places a (rank r.child_bitmap 32))) (of_places nodes (walk_by nodes f) ps)
-    ∙ ap (λ (xs : List (ℕ × X)). own_by nodes f 0 r ++ xs) (sym (places_append nodes (walk_by nodes f) (run_places a (rank r.child_bitmap 32)) ps))
+    ap (λ (xs : List (ℕ × X)). xs ++ of_places nodes (walk_of (tree_by nodes f)) ps) (unfolds nodes f r (own_children nodes vals e r b) (λ p s q. omega (arith, b.shallow p s q)) a same)
+    ∙ append_assoc (own_of (tree_by nodes f) 0 r) (of_places nodes (walk_of (tree_by nodes f)) (run_places a (rank r.child_bitmap 32))) (of_places nodes (walk_of (tree_by nodes f)) ps)
+    ∙ ap (λ (xs : List (ℕ × X)). own_of (tree_by nodes f) 0 r ++ xs) (sym (places_append nodes (walk_of (tree_by nodes f)) (run_places a (rank r.child_bitmap 32)) ps))
 
 module _ {E In Ix N V : Type 0} (n : Ghosts N NodeRow In) (v : Ghosts V E Ix) where
   pub ready_known : (t : Trunk N V) (s : Stack) (node : NodeRecord) (next : ℕ) → ∥ Ready n v t s node next ∥₁ → Ready n v t s node next
@@ -105,35 +105,35 @@ module _ {E In Ix N V : Type 0} (n : Ghosts N NodeRow In) (v : Ghosts V E Ix) wh
 
       module _ (pushed : Stack) (push : lasts pushed.places pushed.top ≡ run_places to.children_index (rank to.child_bitmap 32) ++ lasts popped.places popped.top) where
         order : {X : Type 0} (f : NodeRow → ℕ → Option X) →
-            of_places (live_nodes n v t) (walk_by (live_nodes n v t) f) (lasts s.places s.top) ≡
-            own_by (live_nodes n v t) f 0 (row_of to) ++ of_places (live_nodes n v t) (walk_by (live_nodes n v t) f) (lasts pushed.places pushed.top)
+            of_places (live_nodes n v t) (walk_of (tree_by (live_nodes n v t) f)) (lasts s.places s.top) ≡
+            own_of (tree_by (live_nodes n v t) f) 0 (row_of to) ++ of_places (live_nodes n v t) (walk_of (tree_by (live_nodes n v t) f)) (lasts pushed.places pushed.top)
         order {X} f =
             let m = live_nodes n v t in
-            ap (of_places m (walk_by m f)) pop
-            ∙ first_place m (walk_by m f) p (lasts popped.places popped.top) (row_of to) read
+            ap (of_places m (walk_of (tree_by m f))) pop
+            ∙ first_place m (walk_of (tree_by m f)) p (lasts popped.places popped.top) (row_of to) read
             ∙ unfolds_over m f (live_values n v t) level (row_of to) below levels to.children_index refl (lasts popped.places popped.top)
-            ∙ ap (λ (ps : List Place). own_by m f 0 (row_of to) ++ of_places m (walk_by m f) ps) (sym push)
+            ∙ ap (λ (ps : List Place). own_of (tree_by m f) 0 (row_of to) ++ of_places m (walk_of (tree_by m f)) ps) (sym push)
 
         pub visited : hand n v t node next ≡ [] → hand n v t to 0 ++ rest n v t pushed ≡ hand n v t node next ++ rest n v t s
         visited bare = sym (ap (λ (xs : List (ℕ × E)). xs ++ rest n v t s) bare ∙ order (value (live_values n v t)))
 
-        pub fewer : length (of_places (live_nodes n v t) (walk_by (live_nodes n v t) (λ r b. Some r)) (lasts pushed.places pushed.top)) < length (of_places (live_nodes n v t) (walk_by (live_nodes n v t) (λ r b. Some r)) (lasts s.places s.top))
+        pub fewer : length (unseen n v t pushed) < length (unseen n v t s)
         fewer =
             let m = live_nodes n v t in
             let mark : NodeRow → ℕ → Option NodeRow = λ r b. Some r in
-            let one : own_by m mark 0 (row_of to) ≡ (0, row_of to) ∷ own_by m mark 1 (row_of to) = own_some m mark (row_of to) 0 0 (row_of to) (omega arith) (omega arith) (λ i a z. absurd (omega arith)) refl in
+            let one : own_of (tree_by m mark) 0 (row_of to) ≡ (0, row_of to) ∷ own_of (tree_by m mark) 1 (row_of to) = own_some m mark (row_of to) 0 0 (row_of to) (omega arith) (omega arith) (λ i a z. absurd (omega arith)) refl in
             omega (
               arith,
               ap length (order mark),
               ap length one,
-              length-append (own_by m mark 0 (row_of to)) (of_places m (walk_by m mark) (lasts pushed.places pushed.top)),
+              length-append (own_of (tree_by m mark) 0 (row_of to)) (of_places m (walk_of (tree_by m mark)) (lasts pushed.places pushed.top)),
             )
 
         pub ready_visited : hand n v t node next ≡ [] → Ready n v t pushed to 0
         ready_visited bare = record {
           standing = subst (λ (ps : List Place). Standing (live_nodes n v t) (live_values n v t) ps) (sym push)
-          (stands (live_nodes n v t) (live_values n v t) level p.slot.number (row_of to) below (lasts popped.places popped.top) level_is here.low height to.children_index refl
-          (standing_rest (live_nodes n v t) (live_values n v t) _ _ p pop k.standing));
+              (stands (live_nodes n v t) (live_values n v t) level p.slot.number (row_of to) below (lasts popped.places popped.top) level_is here.low height to.children_index refl
+              (standing_rest (live_nodes n v t) (live_values n v t) _ _ p pop k.standing));
           full = own_values (live_nodes n v t) (live_values n v t) level (row_of to) below;
           within = omega arith;
           few = omega (arith, k.few, ap length (visited bare));
@@ -143,7 +143,7 @@ module _ {E In Ix N V : Type 0} (n : Ghosts N NodeRow In) (v : Ghosts V E Ix) wh
   unfolding of_places
   ended t s node next bare none =
       ap (λ (xs : List (ℕ × E)). xs ++ rest n v t s) bare
-      ∙ ap (of_places (live_nodes n v t) (walk_by (live_nodes n v t) (value (live_values n v t)))) none
+      ∙ ap (of_places (live_nodes n v t) (walk_of (tree_at n v t))) none
 
   -- ---- begun
 
@@ -165,21 +165,21 @@ module _ {E In Ix N V : Type 0} (n : Ghosts N NodeRow In) (v : Ghosts V E Ix) wh
 
     module _ (pushed : Stack) (push : lasts pushed.places pushed.top ≡ run_places t.root.children_index (rank t.root.child_bitmap 32) ++ lasts empty.places empty.top) where
       pub begun : hand n v t t.root 0 ++ rest n v t pushed ≡ walk 25 (tree n v t)
-      unfolding walk_by of_places
+      unfolding walk_of of_places
       begun =
           let m = live_nodes n v t in
           let f = value (live_values n v t) in
-          ap (λ (ps : List Place). own_by m f 0 (row_of t.root) ++ of_places m (walk_by m f) ps) push
+          ap (λ (ps : List Place). own_of (tree_by m f) 0 (row_of t.root) ++ of_places m (walk_of (tree_by m f)) ps) push
           ∙ sym (unfolds_over m f (live_values n v t) 25 (row_of t.root) below_root (omega arith) t.root.children_index refl (lasts empty.places empty.top))
-          ∙ ap (λ (ps : List Place). walk_by m f (row_of t.root) ++ of_places m (walk_by m f) ps) none
-          ∙ append-nil (walk_by m f (row_of t.root))
+          ∙ ap (λ (ps : List Place). walk_of (tree_by m f) (row_of t.root) ++ of_places m (walk_of (tree_by m f)) ps) none
+          ∙ append-nil (walk_of (tree_by m f) (row_of t.root))
 
       pub ready_begun : ((i : ℕ) → length (live_values n v t i) ≤ 32) → Ready n v t pushed t.root 0
       unfolding Standing
       ready_begun short = record {
         standing = subst (λ (ps : List Place). Standing (live_nodes n v t) (live_values n v t) ps) (sym push)
-        (stands (live_nodes n v t) (live_values n v t) 25 31 (row_of t.root) below_root (lasts empty.places empty.top) at_root (omega arith) low_root t.root.children_index refl
-        (subst (λ (ps : List Place). Standing (live_nodes n v t) (live_values n v t) ps) (sym none) tt));
+            (stands (live_nodes n v t) (live_values n v t) 25 31 (row_of t.root) below_root (lasts empty.places empty.top) at_root (omega arith) low_root t.root.children_index refl
+            (subst (λ (ps : List Place). Standing (live_nodes n v t) (live_values n v t) ps) (sym none) tt));
         full = own_values (live_nodes n v t) (live_values n v t) 25 (row_of t.root) below_root;
         within = omega arith;
         few = omega (arith, ap length begun, agrees.counted, tally_low (live_values n v t) short indexes);

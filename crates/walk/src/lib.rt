@@ -1,7 +1,7 @@
 // The walk over a table: every value with its data bit, a node's own by rising bit, and then its children by falling child bit, each with all below it.
 #![tactic(auto)]
 
-ghost use Rattle.walk.specs.Coming.{Ready};
+ghost use Rattle.walk.specs.Standing.{Ready};
 
 pub mod begin;
 pub mod close;
@@ -23,6 +23,6 @@ pub struct Walk<N: RunStore<Item = NodeRow>, V: RunStore> {
     // the node at hand, and the first of its data bits that is yet to be looked at
     node: NodeRecord,
     next: u32,
-    // what is to come can be read off the two stores
+    // the stack has room for all that it may come to have, and what stands on it is there
     ghost ready: { ∥ Ready N.Runs V.Runs trunk stack node next ∥₁ },
 }

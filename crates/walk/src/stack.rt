@@ -11,7 +11,7 @@ pub const PLACES: usize = 776;
 
 #[derive(Drop)]
 pub struct Stack {
-    places: [Place; 776],
+    places: [Place; PLACES],
     top: u32,
     ghost room: { top ≤ 776 },
     ghost whole: { length places ≡ 776 },

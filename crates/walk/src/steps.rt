@@ -1,7 +1,12 @@
 // The steps of a walk, and its end.
-ghost use Rattle.std.specs.Prelude.{◌≡◌, ◌<◌, [], length, MatchOption, true, false, cond};
+ghost use Rattle.std.specs.Prelude.{◌≡◌, ◌<◌, [], length, true, false};
+ghost use Rattle.table_model.specs.Tree.{walk};
+ghost use Rattle.trunk.specs.Meaning.{tree, Sound};
+ghost use Rattle.walk.specs.Coming.{hand};
+ghost use Rattle.walk.specs.Standing.{unseen};
 
 use crate::Walk;
+use crate::stack::Stack;
 use bitmap::{Bit, count};
 use nodes::record::NodeRecord;
 use runs::entry::{Entry, NodeRow};
@@ -9,13 +14,30 @@ use runs::store::RunStore;
 use trunk::Trunk;
 
 impl<E: Entry, N: RunStore<Item = NodeRow>, V: RunStore<Item = E>> Walk<N, V> {
-    ghost use Rattle.walk.specs.Meaning.{at_hand, behind, unseen, to_come, Gives};
+    ghost use Rattle.walk.specs.Meaning.{to_come, Gives};
+
+    // The root stands in no run: it is at hand first, and its children are the first to be pushed.
+    pub(crate) fn over(trunk: Trunk<N, V>) -> Walk<N, V>
+        requires { Sound N.Runs V.Runs trunk }
+        ensures trunk { result.trunk ≡ trunk }
+        ensures to_come { to_come N.Runs V.Runs result ≡ walk 25 (tree N.Runs V.Runs trunk) }
+    {
+        let node = trunk.root;
+        let mut stack = Stack::new();
+        stack.push_run(node.children_index, count(node.child_bitmap));
+        Walk {
+            trunk,
+            stack,
+            node,
+            next: 0,
+        }
+    }
 
     // The next value of the node at hand.
     fn give(&mut self) -> Option<(Bit, E)>
         ensures trunk { self.new.trunk ≡ self.old.trunk }
         ensures stack { self.new.stack ≡ self.old.stack }
-        ensures gives { Gives (at_hand N.Runs V.Runs self.old) result (at_hand N.Runs V.Runs self.new) }
+        ensures gives { Gives (hand N.Runs V.Runs self.old.trunk self.old.node self.old.next) result (hand N.Runs V.Runs self.new.trunk self.new.node self.new.next) }
     {
         let left = self.node.data_bitmap >> self.next;
         if left == 0 {
@@ -32,11 +54,11 @@ impl<E: Entry, N: RunStore<Item = NodeRow>, V: RunStore<Item = E>> Walk<N, V> {
 
     // Goes to the next node; false where every node was visited.
     fn advance(&mut self) -> bool
-        requires { at_hand N.Runs V.Runs self.old ≡ [] }
+        requires { hand N.Runs V.Runs self.old.trunk self.old.node self.old.next ≡ [] }
         ensures trunk { self.new.trunk ≡ self.old.trunk }
         ensures to_come { to_come N.Runs V.Runs self.new ≡ to_come N.Runs V.Runs self.old }
         ensures ended { result ≡ false → to_come N.Runs V.Runs self.old ≡ [] }
-        ensures visited { result ≡ true → length (unseen N.Runs V.Runs self.new) < length (unseen N.Runs V.Runs self.old) }
+        ensures visited { result ≡ true → length (unseen N.Runs V.Runs self.new.trunk self.new.stack) < length (unseen N.Runs V.Runs self.old.trunk self.old.stack) }
     {
         let Some(place) = self.stack.pop() else {
             return false;
@@ -71,7 +93,7 @@ impl<E: Entry, N: RunStore<Item = NodeRow>, V: RunStore<Item = E>> Walk<N, V> {
         ensures nodes { result.1 ≡ self.trunk.nodes }
         ensures values { result.2 ≡ self.trunk.values }
     {
-        let mut left = 0;
+        let mut left: u32 = 0;
         while self.next().is_some() {
             left += 1;
         }

@@ -5,7 +5,6 @@ use Rattle.table_model.proofs.States.{entry_yes}
 use Rattle.table_model.specs.Table.{Passes}
 use Rattle.trunk.proofs.Granted.{granted_ok, answered}
 use Rattle.walk.specs.Coming.{row_at, live_nodes}
-use Rattle.walk.specs.Places.{lasts, run_places}
 use Rattle.walk.proofs.Walks.{ready_known, inside, row_passes, room, visited, fewer, ready_visited, ended}
 use Rattle.walk.proofs.Walk.advance.Goals as goal
 

@@ -1,4 +1,4 @@
-use Rattle.std.proofs.Common.{◌≡◌, ◌/◌, ◌^◌, refl, arith}
+use Rattle.std.proofs.Common.{◌/◌, ◌^◌, arith}
 use Rattle.std.proofs.lemmas.Nat.{trailing_le}
 use Rattle.nodes.specs.Records.{row_of}
 use Rattle.table_model.proofs.States.{entry_yes}
@@ -49,5 +49,7 @@ invariant_of-self g c =
     let w = c.args.self.now in
     let k = ready_known g.N.Runs g.V.Runs w.trunk w.stack w.node w.next w.ready in
     let low = found w.node.data_bitmap w.next w.node.low c.if-left-eq0.false in
-    record { ready = ∣ ready_after g.N.Runs g.V.Runs w.trunk w.stack w.node w.next k _ low (omega arith) c.unwrap-value.result
-    (rw (c.data-data.ensures.bitmap, c.data-data.ensures.index) at (answered _ _ _ c.entry.result c.unwrap-value.result c.unwrap-value.ensures c.entry.ensures)) ∣₁ }
+    record {
+      ready = ∣ ready_after g.N.Runs g.V.Runs w.trunk w.stack w.node w.next k _ low (omega arith) c.unwrap-value.result
+          (rw (c.data-data.ensures.bitmap, c.data-data.ensures.index) at (answered _ _ _ c.entry.result c.unwrap-value.result c.unwrap-value.ensures c.entry.ensures)) ∣₁;
+    }
