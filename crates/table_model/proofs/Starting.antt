@@ -22,7 +22,7 @@ none_below live (suc n) e i l = elim (cases_eq i n) [
   | inr other ↦ none_below live n (omega arith) i (omega arith)
 ]
 
-none_live : {E S : Type 0} (m : Model E S) (longest : ℕ) (Valid : S → Type 0) → Lawful m longest Valid → (s : S) → Valid s → count (m.live s) ≡ 0 → (i : ℕ) → m.live s i ≡ []
+pub none_live : {E S : Type 0} (m : Model E S) (longest : ℕ) (Valid : S → Type 0) → Lawful m longest Valid → (s : S) → Valid s → count (m.live s) ≡ 0 → (i : ℕ) → m.live s i ≡ []
 none_live m longest Valid law s valid e i = elim (cases_lt i indexes) [
   | inl l ↦ none_below (m.live s) indexes e i l
   | inr l ↦ law.low s i valid l

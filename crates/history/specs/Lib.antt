@@ -1,0 +1,5 @@
+pub mod Calls
+pub mod Fresh
+pub mod Last
+pub mod Plays
+pub mod Whole
