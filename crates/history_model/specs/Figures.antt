@@ -1,5 +1,7 @@
 -- Worked figures, which the definitions compute. A value is a number; there is room for 100 nodes.
 use Rattle.std.specs.Prelude.{◌≡◌, ℕ, List, [], ◌∷◌, ◌++◌, map, take as first}
+use Rattle.bitmap.specs.Ranks.{rank}
+use Rattle.runs.specs.Sizes.{size}
 use Rattle.runs.specs.Refusals.{refusal}
 use Rattle.runs.specs.declared.entry.NodeRow.{NodeRow}
 use Rattle.tiered_model.specs.Tiered.{State, fresh, tiered}
@@ -34,7 +36,19 @@ five = put [] 0 10 ∷ put [] 1 11 ∷ put [] 2 12 ∷ put [] 3 13 ∷ put [] 4 
 abbrev pub taking : List (Call ℕ)
 taking = put [] 0 65 ∷ put [] 2 66 ∷ plant [] 3 67 ∷ take [] 0 ∷ []
 
+-- the run of the root's values
+abbrev pub root_lists : List (Call ℕ) → List ℕ
+root_lists cs = (tiered 31).live (states 100 cs).vals (root_at 100 cs)
+
 pub record Figures : Type 0 where
+  -- a rank counts the set bits below a bit
+  pub rank_of_five : rank 38 5 ≡ 2
+  pub ranks_in_all_ones : map (rank 4294967295) (31 ∷ 0 ∷ []) ≡ 31 ∷ 0 ∷ []
+  -- the sizes of groups: the last is 31 for values, 32 for nodes
+  pub sizes : map (size 31) (16 ∷ 17 ∷ 25 ∷ []) ≡ 16 ∷ 24 ∷ 31 ∷ []
+  pub size_of_nodes : size 32 25 ≡ 32
+  -- values stand in the order of their bits
+  pub values_stand_by_bit : root_lists (put [] 1 10 ∷ put [] 4 20 ∷ put [] 9 30 ∷ put [] 6 40 ∷ []) ≡ 10 ∷ 20 ∷ 40 ∷ 30 ∷ []
   -- five puts at a fresh root: its values lie at 0, 1, 3, 3, 7, and 15 cells are claimed
   pub five_lie_at : map (λ k. root_at 100 (first k five)) (1 ∷ 2 ∷ 3 ∷ 4 ∷ 5 ∷ []) ≡ 0 ∷ 1 ∷ 3 ∷ 3 ∷ 7 ∷ []
   pub five_claim : (states 100 five).vals.claimed ≡ 15

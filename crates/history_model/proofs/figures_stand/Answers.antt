@@ -9,6 +9,11 @@ use Rattle.history_model.proofs.figures_stand.Goals as goal
 pub returns : goal.returns
 unfolding bit rank rising falling walk entry find descend bad_byte passing
 returns c = record {
+  rank_of_five = refl;
+  ranks_in_all_ones = refl;
+  sizes = refl;
+  size_of_nodes = refl;
+  values_stand_by_bit = refl;
   five_lie_at = refl;
   five_claim = refl;
   fourteen_are_too_few = refl;
