@@ -21,7 +21,7 @@ Plays a script of calls on a table and prints one answer a line.
 
   get PATH BIT | put PATH BIT VALUE | swap PATH BIT VALUE | take PATH BIT
   add PATH CHILDBIT | plant PATH CHILDBIT VALUE | drop PATH CHILDBIT
-  show PATH | claimed
+  show PATH | claimed | walk
   start NODESTORE VALUESTORE
 
 PATH is child bits joined by '.', or '-' for the root. A store is t:CELLS (tiered), f:CELLS (flat)
@@ -44,6 +44,10 @@ fn is_start(line: &Line) -> bool {
     line.text.parse::<Start>().is_ok()
 }
 
+fn is_walk(line: &Line) -> bool {
+    line.text.trim() == "walk"
+}
+
 fn play_history<E: Value>(rt: &HostRuntime, start: Start, lines: &[Line]) -> io::Result<()> {
     let history = History::<E> {
         rt,
@@ -54,18 +58,20 @@ fn play_history<E: Value>(rt: &HostRuntime, start: Start, lines: &[Line]) -> io:
     history.with_kind(rt, start.nodes)
 }
 
-// A script is a list of histories: each goes to the next `start`, or to the end.
+// A script is a list of histories: each goes to a `walk`, to the next `start`, or to the end. Without a `start` it is on fresh stores like those before.
 fn play_script<E: Value>(rt: &HostRuntime, lines: &[Line]) -> io::Result<()> {
-    for history in lines.chunk_by(|_, next| !is_start(next)) {
+    let mut stores = Start::ROOMY;
+    for history in lines.chunk_by(|line, next| !is_walk(line) && !is_start(next)) {
         let Some((first, rest)) = history.split_first() else {
             return Ok(());
         };
         match first.text.parse::<Start>() {
             Ok(start) => {
                 println!(rt; "ok")?;
-                play_history::<E>(rt, start, rest)?;
+                stores = start;
+                play_history::<E>(rt, stores, rest)?;
             }
-            Err(_) => play_history::<E>(rt, Start::ROOMY, history)?,
+            Err(_) => play_history::<E>(rt, stores, history)?,
         }
     }
     Ok(())

@@ -2,83 +2,169 @@
 use crate::line::{Call, Line, StoreKind};
 use crate::stores::Client;
 use crate::value::Value;
+use bitmap::Bit;
 use claims::Claims;
+use history::call::{Answer, Call as TableCall};
+use history::history::history;
+use history::left::{Last, NoHistory};
+use history::watch::Watch;
 use nodes::fault::Fault;
 use runs::entry::NodeRow;
 use runs::store::RunStore;
-use std::fmt::Display;
+use std::alloc::AllocError;
 use std::io;
 use std::marker::PhantomData;
 use table::Table;
-use table::start::start;
 
-// What is told of an answer that carries something.
-fn tell<T: Display + Drop>(rt: &HostRuntime, answer: Result<T, Fault>) -> io::Result<()> {
-    match answer {
-        Ok(told) => println!(rt; "ok {told}"),
-        Err(fault) => println!(rt; "refused {fault}"),
-    }
+// A line that is not passed over, and the call that it says, if it says one.
+#[derive(Drop)]
+struct Said<'a, E> {
+    line: &'a Line,
+    call: Option<Call<E>>,
 }
 
-fn tell_done(rt: &HostRuntime, answer: Result<(), Fault>) -> io::Result<()> {
-    match answer {
-        Ok(()) => println!(rt; "ok"),
-        Err(fault) => println!(rt; "refused {fault}"),
+fn read<'a, E: Value>(rt: &HostRuntime, lines: &'a [Line]) -> io::Result<Vec<Said<'a, E>>> {
+    let mut said = Vec::new(rt.alloc());
+    for line in lines {
+        let text = line.text.trim();
+        if !text.is_empty() && !text.starts_with('#') {
+            said.push(Said {
+                line,
+                call: text.parse::<Call<E>>().ok(),
+            })?;
+        }
     }
+    Ok(said)
 }
 
-fn answer<E: Value, N: RunStore<Item = NodeRow> + Claims, V: RunStore<Item = E> + Claims>(
+fn calls_on_table<'s, E: Value>(
     rt: &HostRuntime,
-    table: &mut Table<N, V>,
-    call: Call<E>,
-) -> io::Result<()> {
-    match call {
-        Call::Get(path, bit) => tell(rt, table.get(path.bytes(), bit)),
-        Call::Put(path, bit, value) => tell_done(rt, table.put(path.bytes(), bit, value)),
-        Call::Swap(path, bit, value) => tell(rt, table.swap(path.bytes(), bit, value)),
-        Call::Take(path, bit) => tell(rt, table.take(path.bytes(), bit)),
-        Call::Add(path, bit) => tell_done(rt, table.add(path.bytes(), bit)),
-        Call::Plant(path, bit, value) => tell_done(rt, table.plant(path.bytes(), bit, value)),
-        Call::Drop(path, bit) => tell_done(rt, table.drop(path.bytes(), bit)),
-        Call::Show(path) => tell(rt, table.show(path.bytes())),
-        Call::Claimed => {
-            let values = table.values().claimed_cells();
-            let nodes = table.nodes().claimed_cells();
-            println!(rt; "ok {values} {nodes}")
+    lines: &'s [Said<'_, E>],
+) -> io::Result<Vec<TableCall<'s, E>>> {
+    let mut calls = Vec::new(rt.alloc());
+    for said in lines {
+        if let Some(call) = &said.call {
+            if let Some(call) = call.on_table() {
+                calls.push(call)?;
+            }
+        }
+    }
+    Ok(calls)
+}
+
+fn ends_by_walk<E>(said: &[Said<'_, E>]) -> bool {
+    matches!(
+        said.last(),
+        Some(Said {
+            call: Some(Call::Walk),
+            ..
+        })
+    )
+}
+
+// Prints the answers as they are given, and what the lines between the calls ask for.
+#[derive(Drop)]
+struct Printer<'r, 's, 'l, E> {
+    rt: &'r HostRuntime,
+    // from the next call on
+    said: &'s [Said<'l, E>],
+    printed: io::Result<()>,
+}
+
+impl<'r, 's, 'l, E: Value> Printer<'r, 's, 'l, E> {
+    // All lines before the next call, whose own line is taken.
+    fn to_next_call(&mut self, values: u32, nodes: u32) -> io::Result<()> {
+        let lines = self.said;
+        for (i, said) in lines.iter().enumerate() {
+            match &said.call {
+                Some(Call::Claimed) => println!(self.rt; "ok {values} {nodes}")?,
+                Some(_) => {
+                    self.said = &lines[i + 1..];
+                    return Ok(());
+                }
+                None => {
+                    let text = said.line.text.trim();
+                    println!(self.rt; "line {}: no call: {text}", said.line.number)?;
+                }
+            }
+        }
+        self.said = &[];
+        Ok(())
+    }
+
+    fn answer(&self, answer: &Result<Answer<E>, Fault>) -> io::Result<()> {
+        match answer {
+            Ok(Answer::Done) => println!(self.rt; "ok"),
+            Ok(Answer::Value(value)) => println!(self.rt; "ok {value}"),
+            Ok(Answer::Node(row)) => println!(self.rt; "ok {row}"),
+            Err(fault) => println!(self.rt; "refused {fault}"),
         }
     }
 }
 
-// One line: passed over, played, or told to be no call.
-fn play_line<E: Value, N: RunStore<Item = NodeRow> + Claims, V: RunStore<Item = E> + Claims>(
-    rt: &HostRuntime,
-    table: &mut Table<N, V>,
-    line: &Line,
-) -> io::Result<()> {
-    let text = line.text.trim();
-    if text.is_empty() || text.starts_with('#') {
-        return Ok(());
-    }
-    match text.parse::<Call<E>>() {
-        Ok(call) => answer(rt, table, call),
-        Err(_) => println!(rt; "line {}: no call: {text}", line.number),
+impl<
+    'r,
+    's,
+    'l,
+    E: Value,
+    N: RunStore<Item = NodeRow> + Claims,
+    V: RunStore<Item = E> + Claims,
+> Watch<E, N, V> for Printer<'r, 's, 'l, E> {
+    fn see(&mut self, table: &Table<N, V>, answer: &Result<Answer<E>, Fault>) {
+        if self.printed.is_ok() {
+            self.printed = self.answer(answer);
+        }
+        if self.printed.is_ok() {
+            let values = table.values().claimed_cells();
+            let nodes = table.nodes().claimed_cells();
+            self.printed = self.to_next_call(values, nodes);
+        }
     }
 }
 
-// The lines of one history, on a table over two stores.
+// What a walk hands out: each value with its bit.
+fn print_walk<E: Value>(rt: &HostRuntime, nexts: &[Option<(Bit, E)>]) -> io::Result<()> {
+    for next in nexts {
+        if let Some((bit, value)) = next {
+            println!(rt; "{} {value}", bit.number)?;
+        }
+    }
+    Ok(())
+}
+
+// The lines of one history, on a table over two stores. It has no more values than calls, so that so many nexts are all.
 fn play_lines<
     E: Value,
     N: RunStore<Item = NodeRow> + Claims + Drop,
     V: RunStore<Item = E> + Claims + Drop,
 >(rt: &HostRuntime, lines: &[Line], nodes: N, values: V) -> io::Result<()> {
-    match start(nodes, values) {
-        Ok(mut table) => {
-            for line in lines {
-                play_line(rt, &mut table, line)?;
-            }
-            Ok(())
+    let said = read::<E>(rt, lines)?;
+    let calls = calls_on_table(rt, said.as_slice())?;
+    let mut printer = Printer {
+        rt,
+        said: said.as_slice(),
+        printed: Ok(()),
+    };
+    printer.to_next_call(values.claimed_cells(), nodes.claimed_cells())?;
+    let last = if ends_by_walk(said.as_slice()) {
+        Last::End(calls.len())
+    } else {
+        Last::Stay
+    };
+    match history(
+        rt.alloc(),
+        nodes,
+        values,
+        calls.as_slice(),
+        last,
+        &mut printer,
+    ) {
+        Ok(played) => {
+            printer.printed?;
+            print_walk(rt, played.nexts.as_slice())
         }
-        Err(back) => println!(rt; "refused {back}"),
+        Err(NoHistory::NotStarted(back)) => println!(rt; "refused {back}"),
+        Err(NoHistory::NoMemory(_, _)) => Err(io::Error::from(AllocError)),
     }
 }
 
