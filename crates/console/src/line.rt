@@ -3,8 +3,6 @@ ghost use Rattle.std.specs.Prelude.{◌≡◌, ◌≤◌};
 
 use arrayvec::{ArrayVec, CapacityError};
 use bitmap::Bit;
-use history::call::Call as TableCall;
-use runs::entry::Entry;
 use std::num::ParseIntError;
 use std::str::{FromStr, SplitWhitespace};
 
@@ -72,23 +70,6 @@ pub enum Call<E> {
     Show(Steps),
     Claimed,
     Walk,
-}
-
-impl<E: Entry> Call<E> {
-    // The call on the table; none of a look at the stores, nor of a walk.
-    pub fn on_table(&self) -> Option<TableCall<'_, E>> {
-        Some(match self {
-            Call::Get(path, bit) => TableCall::Get(path.bytes(), *bit),
-            Call::Put(path, bit, value) => TableCall::Put(path.bytes(), *bit, *value),
-            Call::Swap(path, bit, value) => TableCall::Swap(path.bytes(), *bit, *value),
-            Call::Take(path, bit) => TableCall::Take(path.bytes(), *bit),
-            Call::Add(path, bit) => TableCall::Add(path.bytes(), *bit),
-            Call::Plant(path, bit, value) => TableCall::Plant(path.bytes(), *bit, *value),
-            Call::Drop(path, bit) => TableCall::Drop(path.bytes(), *bit),
-            Call::Show(path) => TableCall::Show(path.bytes()),
-            Call::Claimed | Call::Walk => return None,
-        })
-    }
 }
 
 // The next word, read.

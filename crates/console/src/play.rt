@@ -37,6 +37,21 @@ fn read<'a, E: Value>(rt: &HostRuntime, lines: &'a [Line]) -> io::Result<Vec<Sai
     Ok(said)
 }
 
+// The call on the table; none of a look at the stores, nor of a walk.
+fn on_table<E: Value>(call: &Call<E>) -> Option<TableCall<'_, E>> {
+    Some(match call {
+        Call::Get(path, bit) => TableCall::Get(path.bytes(), *bit),
+        Call::Put(path, bit, value) => TableCall::Put(path.bytes(), *bit, *value),
+        Call::Swap(path, bit, value) => TableCall::Swap(path.bytes(), *bit, *value),
+        Call::Take(path, bit) => TableCall::Take(path.bytes(), *bit),
+        Call::Add(path, bit) => TableCall::Add(path.bytes(), *bit),
+        Call::Plant(path, bit, value) => TableCall::Plant(path.bytes(), *bit, *value),
+        Call::Drop(path, bit) => TableCall::Drop(path.bytes(), *bit),
+        Call::Show(path) => TableCall::Show(path.bytes()),
+        Call::Claimed | Call::Walk => return None,
+    })
+}
+
 fn calls_on_table<'s, E: Value>(
     rt: &HostRuntime,
     lines: &'s [Said<'_, E>],
@@ -44,7 +59,7 @@ fn calls_on_table<'s, E: Value>(
     let mut calls = Vec::new(rt.alloc());
     for said in lines {
         if let Some(call) = &said.call {
-            if let Some(call) = call.on_table() {
+            if let Some(call) = on_table(call) {
                 calls.push(call)?;
             }
         }
