@@ -209,31 +209,31 @@ fn a_take_moves_the_run_back(alloc: Global) -> bool {
         put(2, 12),
         put(3, 13),
         put(4, 14),
-        take(2),
+        take(0),
         SHOW,
     ];
-    let taken = Ok(Answer::Value(12));
-    let answers = [DONE, DONE, DONE, DONE, DONE, taken, holding(0b1_1011, 3)];
+    let taken = Ok(Answer::Value(10));
+    let answers = [DONE, DONE, DONE, DONE, DONE, taken, holding(0b1_1110, 3)];
     answers_so(alloc, [0, 15], &calls, &answers, 15)
 }
 
 // Two values at the root and one in a child: the taken run of two goes to a group of one cell.
 fn a_take_wants_a_cell_more(alloc: Global) -> bool {
-    let calls = [put(0, 10), put(1, 11), plant(3, 12), take(0)];
+    let calls = [put(0, 65), put(2, 66), plant(3, 67), take(0)];
     let refused = [DONE, DONE, DONE, NO_VALUE_GROUP];
-    let accepted = [DONE, DONE, DONE, Ok(Answer::Value(10))];
+    let accepted = [DONE, DONE, DONE, Ok(Answer::Value(65))];
     answers_so(alloc, [1, 3], &calls, &refused, 3)
         && answers_so(alloc, [1, 4], &calls, &accepted, 4)
 }
 
 // A, B at the root's bits 0, 2; child 3 holds C, child 7 holds D.
 fn the_walk_goes_by_falling_child(alloc: Global) -> bool {
-    let calls = [put(0, 10), put(2, 20), plant(3, 30), plant(7, 40)];
-    walks_so(alloc, &calls, &[(0, 10), (2, 20), (0, 40), (0, 30)])
+    let calls = [put(0, 65), put(2, 66), plant(3, 67), plant(7, 68)];
+    walks_so(alloc, &calls, &[(0, 65), (2, 66), (0, 68), (0, 67)])
 }
 
 fn bits_are_checked(alloc: Global) -> bool {
-    let calls = [put(30, 10), put(31, 11), add(31), add(32)];
+    let calls = [put(30, 1), put(31, 1), add(31), add(32)];
     answers_so(alloc, [1, 1], &calls, &[DONE, BAD_BIT, DONE, BAD_BIT], 1)
 }
 
