@@ -107,7 +107,7 @@ impl<'a, E: Entry> Flat<'a, E> {
         requires slot { slot < length ((store_state self.now).live at) }
         ensures { nth ((store_state self.now).live at) slot ≡ Some result }
     {
-        self.cells[(at + slot) as usize]
+        entry_in(self.cells, (at + slot) as usize).unwrap()
     }
 
     // Writes an entry at a slot of a run. (One line, here and in a tiered store.)

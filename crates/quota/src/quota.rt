@@ -139,8 +139,11 @@ impl<E: Entry, S: RunStore<Item = E>> RunStore for Quota<S> {
         self.below.exchange(at, slot, e)
     }
 
+    // A limit that is not reached refuses nothing, so that the store below judges alone: it is asked once, through however many limits.
     fn open(&mut self, e: E) -> Result<E::Index, StoreFault> {
-        self.grow(0)?;
+        if self.used == self.limit {
+            return Err(StoreFault::LimitReached(0));
+        }
         let at = self.below.open(e).map_err(crossed)?;
         self.used += 1;
         Ok(at)
@@ -148,7 +151,9 @@ impl<E: Entry, S: RunStore<Item = E>> RunStore for Quota<S> {
 
     // The limit comes last: where no run is live, or the slot is beyond its range, that is the refusal.
     fn insert(&mut self, at: E::Index, slot: Slot, e: E) -> Result<E::Index, StoreFault> {
-        self.may_insert(at, slot)?;
+        if self.used == self.limit {
+            self.may_insert(at, slot)?;
+        }
         let to = self.below.insert(at, slot, e).map_err(crossed)?;
         self.used += 1;
         Ok(to)

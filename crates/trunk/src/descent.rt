@@ -52,7 +52,8 @@ impl<E: Entry, N: RunStore<Item = NodeRow>, V: RunStore<Item = E>> Trunk<N, V> {
         })
     }
 
-    // The descent, along a path that has been read.
+    // The descent, along a path that has been read. (The hints here and at `reach` and `may_get` are for speed: a short way costs less than a call.)
+    #[inline(always)]
     fn follow(&self, path: &[u8]) -> Result<Spot, Fault>
         requires sound { Sound N.Runs V.Runs self.now }
         requires reads { bad_path path.now ≡ None }
@@ -67,7 +68,10 @@ impl<E: Entry, N: RunStore<Item = NodeRow>, V: RunStore<Item = E>> Trunk<N, V> {
         // the place of a byte is what a refusal answers: how many child bits were followed
         for (i, b) in path.iter().enumerate() {
             let bit = Bit { number: *b as u32 };
-            spot = self.child(spot, bit).ok_or(Fault::NoNode(i as u32))?;
+            let Some(child) = self.child(spot, bit) else {
+                return Err(Fault::NoNode(i as u32));
+            };
+            spot = child;
         }
         Ok(spot)
     }
@@ -85,6 +89,7 @@ impl<E: Entry, N: RunStore<Item = NodeRow>, V: RunStore<Item = E>> Trunk<N, V> {
     }
 
     // The node at a path, and a bit of it that is to be below the width.
+    #[inline(always)]
     pub fn reach(&self, path: &[u8], bit: Bit, width: u32) -> Result<Spot, Fault>
         requires { Sound N.Runs V.Runs self.now }
         ensures { Judged (no_place (tree N.Runs V.Runs self.now) path.now bit.number width)

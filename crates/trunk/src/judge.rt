@@ -27,6 +27,7 @@ fn at_depth(path: &[u8]) -> bool
 
 impl<E: Entry, N: RunStore<Item = NodeRow>, V: RunStore<Item = E>> Trunk<N, V> {
     // A set data bit.
+    #[inline(always)]
     pub fn may_get(&self, path: &[u8], bit: Bit) -> Result<Spot, Fault>
         requires { Sound N.Runs V.Runs self.now }
         ensures { Judged (get_no N.Runs.model V.Runs.model (states N.Runs V.Runs self.now) path.now bit.number)

@@ -8,4 +8,4 @@ pub returns-then-n-le24 : goal.returns-then-n-le24
 returns-then-n-le24 c =
     let h : c.args.n < 25 = omega arith in
     let e = (tier_right c.args.longest c.args.n h).1 in
-    record { value = e; least = λ a b l m. subst (λ (z : ℕ). Least c.args.longest c.args.n z) (sym e) (sizes c.args.longest c.args.n a b l m) }
+    record { value = e; none = λ a b. omega arith; least = λ a b l m. subst (λ (z : ℕ). Least c.args.longest c.args.n z) (sym e) (sizes c.args.longest c.args.n a b l m) }
